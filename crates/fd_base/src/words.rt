@@ -1,0 +1,48 @@
+//! Little-endian words and halfwords in bytes. Places are counted in bytes from 0.
+
+ghost use Rattle.std.specs.Prelude.{◌≡◌, ◌+◌, ◌≤◌, length};
+ghost use Rattle.fd_base.specs.Words as spec;
+
+use byteorder::{ByteOrder, LittleEndian};
+
+/// The word at a place that is known to lie in the bytes.
+#[tactic(auto, unfolding(crate::specs::Words::word_in))]
+pub fn word_in(bytes: &[u8], at: usize) -> u32
+    requires { at + 4 ≤ length bytes.now }
+    ensures { result ≡ spec.word_in bytes.now at }
+{
+    LittleEndian::read_u32(&bytes[at..])
+}
+
+/// The halfword at a place that is known to lie in the bytes.
+#[tactic(auto, unfolding(crate::specs::Words::half_in))]
+pub fn half_in(bytes: &[u8], at: usize) -> u16
+    requires { at + 2 ≤ length bytes.now }
+    ensures { result ≡ spec.half_in bytes.now at }
+{
+    LittleEndian::read_u16(&bytes[at..])
+}
+
+/// The word at a place. None exactly where it passes the end.
+pub fn word_at(bytes: &[u8], at: u32) -> Option<u32>
+    ensures { result ≡ spec.word_at bytes.now at }
+{
+    let at = at as usize;
+    if at + 4 <= bytes.len() {
+        Some(word_in(bytes, at))
+    } else {
+        None
+    }
+}
+
+/// The halfword at a place. None exactly where it passes the end.
+pub fn half_at(bytes: &[u8], at: u32) -> Option<u16>
+    ensures { result ≡ spec.half_at bytes.now at }
+{
+    let at = at as usize;
+    if at + 2 <= bytes.len() {
+        Some(half_in(bytes, at))
+    } else {
+        None
+    }
+}
