@@ -1,0 +1,4 @@
+pub mod Said
+pub mod Agreed
+pub mod Answered
+pub mod Claims

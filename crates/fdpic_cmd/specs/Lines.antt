@@ -1,0 +1,33 @@
+-- The line of a status on err.
+use Rattle.std.specs.Prelude.{ℕ, List, [], ◌∷◌, ◌++◌, codes}
+use Rattle.fd_base.specs.Texts.{shown}
+use Rattle.fdpic_cmd.specs.declared.status.Status.{Status}
+use Rattle.fdpic_cmd.specs.declared.status.Status.TheVariants.{Done, Memory, Words, StoreFault, SinkFault, Refused}
+use Rattle.fdpic_cmd.specs.declared.status.Refusal.{Refusal}
+use Rattle.fdpic_cmd.specs.declared.status.Refusal.TheVariants.{NoFile, TooLong}
+
+-- what is said of a refusal
+unfoldable pub refusal_text : Refusal → List ℕ
+refusal_text (NoFile name) = codes "no file " ++ shown name
+refusal_text (TooLong name) = codes "too long " ++ shown name
+
+-- what is said of a status
+unfoldable pub status_text : Status → List ℕ
+status_text Done = []
+status_text Memory = codes "out of memory"
+status_text Words = codes "words"
+status_text StoreFault = codes "store fault"
+status_text SinkFault = codes "sink fault"
+status_text (Refused r) = refusal_text r
+
+abbrev pub line : List ℕ → List ℕ
+line text = codes "fdpic: " ++ text ++ 10 ∷ []
+
+-- the line of a status; none for Done
+abbrev pub line_of : Status → List ℕ
+line_of Done = []
+line_of Memory = line (status_text Memory)
+line_of Words = line (status_text Words)
+line_of StoreFault = line (status_text StoreFault)
+line_of SinkFault = line (status_text SinkFault)
+line_of (Refused r) = line (status_text (Refused r))
