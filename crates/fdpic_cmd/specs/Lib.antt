@@ -2,6 +2,7 @@ pub mod Forms
 pub mod Outcome
 pub mod Meaning
 pub mod Bind
+pub mod Binding
 pub mod Ended
 pub mod Answers
 pub mod Lines
