@@ -1,0 +1,3 @@
+pub mod Tests
+pub mod Computing
+pub mod Examples

@@ -1,0 +1,13 @@
+pub mod Test
+pub mod Header
+pub mod Segments
+pub mod Strings
+pub mod Sections
+pub mod Dynamic
+pub mod Symbols
+pub mod Relocations
+pub mod Fields
+pub mod Object
+pub mod Places
+pub mod Plain
+pub mod Sound

@@ -1,0 +1,18 @@
+//! Arm FDPIC objects: their types, the numbers of the ELF tables, and (in `specs/`) what it means that
+//! bytes are an object. Nothing here reads or writes a file.
+#![tactic(auto)]
+
+pub mod constants;
+mod func;
+mod object;
+mod refusal;
+mod relocatable;
+mod table;
+
+pub use func::Func;
+pub use object::{
+    Extent, Inits, Kind, Object, Place, Rel, Rels, Segment, Segments, Symbol, Symbols,
+};
+pub use refusal::{ElfKind, ElfRefusal};
+pub use relocatable::{RelObject, RelObjects, RelSection, RelSections};
+pub use table::{DynEntry, ProgramHeader, RelEntry, RelTable, SectionHeader, Site, SymbolEntry};

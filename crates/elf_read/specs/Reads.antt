@@ -1,0 +1,12 @@
+-- What the reader answers.
+use Rattle.std.specs.Prelude.{◌≡◌, ℕ, List, Result, Ok, Err}
+use Rattle.elf_model.specs.declared.object.Object.{Object}
+use Rattle.elf_model.specs.Plain.{IsPlainObject}
+use Rattle.elf_read.specs.declared.error.ReadErr.{ReadErr}
+use Rattle.elf_read.specs.declared.error.ReadErr.TheVariants.{NotBuilt, Memory}
+
+-- The bytes are that plain object, or no plain object. Want of memory is free.
+abbrev pub IsReadAs : List ℕ → Result Object ReadErr → Type 0
+IsReadAs bytes (Ok o) = IsPlainObject bytes o
+IsReadAs bytes (Err NotBuilt) = (o : Object) → ¬ IsPlainObject bytes o
+IsReadAs bytes (Err Memory) = Unit {0}

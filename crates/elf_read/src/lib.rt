@@ -1,0 +1,9 @@
+//! The reader of executables and shared objects. Bytes are accepted exactly where they are an object.
+#![tactic(auto)]
+
+mod error;
+mod object;
+
+pub use elf_model::{ElfKind, ElfRefusal};
+pub use error::ReadErr;
+pub use object::read_object;
