@@ -2,6 +2,7 @@
 #![tactic(auto)]
 
 mod calls;
+mod map;
 mod name;
 mod seq;
 mod sink;
@@ -9,6 +10,7 @@ mod store;
 mod text;
 mod words;
 
+pub use map::MapEntry;
 pub use name::{Name, NameErr};
 pub use seq::{Bytes, Memory, Names, Numbers, Seq, Words};
 pub use sink::{MemSink, Sink, SinkErr};
