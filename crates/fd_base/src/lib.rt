@@ -2,13 +2,19 @@
 #![tactic(auto)]
 
 mod calls;
+mod host;
+mod map;
 mod name;
 mod seq;
 mod sink;
 mod store;
+#[cfg(test)]
+mod tests;
 mod text;
 mod words;
 
+pub use host::{DirStore, StdSink};
+pub use map::MapEntry;
 pub use name::{Name, NameErr};
 pub use seq::{Bytes, Memory, Names, Numbers, Seq, Words};
 pub use sink::{MemSink, Sink, SinkErr};
