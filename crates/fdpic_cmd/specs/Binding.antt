@@ -5,12 +5,13 @@ use Rattle.fd_base.specs.Fetched.{Files}
 use Rattle.fd_base.specs.Faults.{Rose}
 use Rattle.mod_load.specs.declared.loader.Loader.{Loader}
 use Rattle.mod_load.specs.declared.module.Module.{Module}
+use Rattle.mod_load.specs.declared.module.SlotPair.{SlotPair}
 use Rattle.mod_load.specs.Loading.{IsLoaded}
 use Rattle.mod_load.specs.Slots.{slot_pairs_of}
 use Rattle.fdpic_cmd.specs.declared.status.Failure.{Failure}
 use Rattle.fdpic_cmd.specs.declared.status.Failure.TheVariants.{Refused, StoreFault, Memory}
 use Rattle.fdpic_cmd.specs.Outcome.{refuses}
-use Rattle.fdpic_cmd.specs.Bind.{plan_of, slot_lines, BindMeans}
+use Rattle.fdpic_cmd.specs.Bind.{plan_of, BindMeans}
 
 -- the object of the file is loaded, or why it isn't
 abbrev pub Loads : List ℕ → ℕ → ℕ → Option Files → ℕ → ℕ → Result Loader Failure → Type 0
@@ -19,6 +20,6 @@ Loads file text data' files old new (Err (Refused r)) = IfSome files (λ told. B
 Loads file text data' files old new (Err StoreFault) = Rose old new
 Loads file text data' files old new (Err Memory) = Unit {0}
 
--- the lines of the slots of module m, none where there is no such module
-abbrev pub lines_of : List Module → ℕ → List ℕ
-lines_of modules m = option_map_or (λ live. slot_lines m 0 (slot_pairs_of live)) (slice_get modules m) []
+-- the slots of module m, none where there is no such module
+abbrev pub pairs_of : List Module → ℕ → List SlotPair
+pairs_of modules m = option_map_or slot_pairs_of (slice_get modules m) []

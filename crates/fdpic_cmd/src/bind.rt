@@ -3,10 +3,10 @@
 ghost use Rattle.std.specs.Prelude.{◌≡◌, ◌≤◌, ◌<◌, ◌++◌, IfOk, IfErr, IfSome, OnOk, length};
 ghost use Rattle.mod_load.specs.Loaded.{IsConsistent};
 ghost use Rattle.mod_load.specs.Plan.{Fits};
-ghost use Rattle.mod_load.specs.Slots.{slot_pairs_of, slot_pair_of};
+ghost use Rattle.mod_load.specs.Slots.{slot_pairs_of};
 ghost use Rattle.fdpic_cmd.specs.Bind as spec;
 ghost use Rattle.fdpic_cmd.specs.Ended.{Gives};
-ghost use Rattle.fdpic_cmd.specs.Binding.{Loads, lines_of};
+ghost use Rattle.fdpic_cmd.specs.Binding.{Loads, pairs_of};
 
 use crate::status::{Failure, Refusal};
 use elf_model::constants::MAX_ENTRIES;
@@ -96,7 +96,7 @@ fn put_slot_line(out: &mut Bytes, m: u32, k: u32, pair: &SlotPair) -> Result<(),
 /// Puts the lines of the slots of module m.
 fn put_slots(out: &mut Bytes, loader: &Loader, m: u32) -> Result<(), Memory>
     requires { IsConsistent loader.now.loaded }
-    ensures { OnOk result (out.new ≡ out.old ++ lines_of loader.now.loaded.modules m) }
+    ensures { OnOk result (out.new ≡ out.old ++ spec.slot_lines m 0 (pairs_of loader.now.loaded.modules m)) }
 {
     for k in 0..MAX_ENTRIES as u32 {
         match loader.slot_pair(m, k) {

@@ -1,11 +1,38 @@
 //! The line of a status on the standard error.
 
 ghost use Rattle.std.specs.Prelude.{◌≡◌, ◌++◌, IfOk, OnOk, codes};
+ghost use Rattle.fd_base.specs.Texts.{shown};
 ghost use Rattle.fdpic_cmd.specs.Lines as spec;
 
 use crate::status::{Refusal, Status};
-use fd_base::{Bytes, Memory, put_shown};
+use fd_base::{Bytes, Memory, Name, put_dec, put_shown};
+use mod_load::LoadRefusal;
 use std::alloc::Global;
+
+/// Puts a word and a name.
+fn put_named(out: &mut Bytes, word: &[u8], name: &Name) -> Result<(), Memory>
+    ensures { OnOk result (out.new ≡ out.old ++ (word.now ++ shown name.now)) }
+{
+    out.extend_from_slice(word)?;
+    put_shown(out, name)
+}
+
+/// Puts what is said of a refused load.
+#[tactic(auto, unfolding(crate::specs::Lines::load_text))]
+fn put_load(out: &mut Bytes, refusal: &LoadRefusal) -> Result<(), Memory>
+    ensures { OnOk result (out.new ≡ out.old ++ spec.load_text refusal.now) }
+{
+    match refusal {
+        LoadRefusal::NotBuilt(name) => put_named(out, b"NotBuilt ", name),
+        LoadRefusal::NoFile(name) => put_named(out, b"NoFile ", name),
+        LoadRefusal::TooLong(name) => put_named(out, b"TooLong ", name),
+        LoadRefusal::TooManyModules => out.extend_from_slice(b"TooManyModules"),
+        LoadRefusal::NoRoom(item) => {
+            out.extend_from_slice(b"NoRoom ")?;
+            put_dec(out, *item)
+        }
+    }
+}
 
 /// Puts what is said of a refusal.
 #[tactic(auto, unfolding(crate::specs::Lines::refusal_text))]
@@ -13,13 +40,11 @@ fn put_refusal(out: &mut Bytes, refusal: &Refusal) -> Result<(), Memory>
     ensures { OnOk result (out.new ≡ out.old ++ spec.refusal_text refusal.now) }
 {
     match refusal {
-        Refusal::NoFile(name) => {
-            out.extend_from_slice(b"no file ")?;
-            put_shown(out, name)
-        }
-        Refusal::TooLong(name) => {
-            out.extend_from_slice(b"too long ")?;
-            put_shown(out, name)
+        Refusal::NoFile(name) => put_named(out, b"no file ", name),
+        Refusal::TooLong(name) => put_named(out, b"too long ", name),
+        Refusal::Load(refusal) => {
+            out.extend_from_slice(b"load ")?;
+            put_load(out, refusal)
         }
     }
 }

@@ -1,6 +1,7 @@
 //! How the program ends.
 
 use fd_base::Name;
+use mod_load::LoadRefusal;
 use std::alloc::AllocError;
 
 /// Why a command is refused.
@@ -10,6 +11,8 @@ pub enum Refusal {
     NoFile(Name),
     /// The file of this name, which the words name, is longer than `MAX_FILE`.
     TooLong(Name),
+    /// Loading is refused, for another cause than these.
+    Load(LoadRefusal),
 }
 
 /// How the program ends.

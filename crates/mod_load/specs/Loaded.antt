@@ -10,6 +10,7 @@ use Rattle.placement.specs.Space.{Space, AreApart, SameRanges, all_held}
 use Rattle.mod_load.specs.declared.plan.MemPlan.{MemPlan}
 use Rattle.mod_load.specs.declared.module.Module.{Module}
 use Rattle.mod_load.specs.declared.module.Added.{Added}
+use Rattle.mod_load.specs.declared.module.TheConstants.{MAX_MODULES}
 use Rattle.mod_load.specs.Plan.{low_of, high_of}
 use Rattle.mod_load.specs.Image.{IsImage}
 
@@ -65,6 +66,7 @@ ranges_from number (m ∷ ms) = ranges_of number m.load_map ++ ranges_from (numb
 
 -- Live modules have different names and stand, and what is held are their segments, which meet nowhere.
 pub record IsConsistent (l : Loaded) : Type 0 where
+  pub few : length l.modules ≤ MAX_MODULES
   pub names : AllPairs (λ m n. m.name ≢ n.name) l.modules
   pub standing : (number : ℕ) (m : Module) → slice_get l.modules number ≡ Some m → IsStanding l.plan number m
   pub ranges : SameRanges l.held (ranges_from 0 l.modules)
