@@ -2,7 +2,12 @@
 #![tactic(auto)]
 
 mod error;
+mod dynamic;
+mod header;
+mod held;
 mod object;
+mod refuse;
+mod segments;
 
 pub use elf_model::{ElfKind, ElfRefusal};
 pub use error::ReadErr;
