@@ -3,3 +3,9 @@ pub mod Filtered
 pub mod Find
 pub mod Holders
 pub mod Places
+pub mod Meeting
+pub mod Placed
+pub mod Ranges
+pub mod Filling
+pub mod Words
+pub mod Plainness

@@ -24,3 +24,8 @@ Reads view (Err e) tests value = IsRefusal e tests
 abbrev pub Refuses : Result (Unit {0}) TestErr → Bool → ElfKind → ℕ → Type 0
 Refuses (Ok u) b kind offset = b ≡ false
 Refuses (Err e) b kind offset = (b ≡ true) × (e ≡ Refused (record { kind = kind; at = offset }))
+
+-- each test holds and P of what is given, or the error is the first test that fails
+abbrev pub Gives : {X : Type 0} → Result X TestErr → List Test → (X → Type 0) → Type 0
+Gives (Ok x) tests P = (first_failing tests ≡ None) × P x
+Gives (Err e) tests P = IsRefusal e tests

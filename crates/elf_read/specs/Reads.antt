@@ -10,3 +10,9 @@ abbrev pub IsReadAs : List ℕ → Result Object ReadErr → Type 0
 IsReadAs bytes (Ok o) = IsPlainObject bytes o
 IsReadAs bytes (Err NotBuilt) = (o : Object) → ¬ IsPlainObject bytes o
 IsReadAs bytes (Err Memory) = Unit {0}
+
+-- the answer is this one, unless memory was wanted
+abbrev pub IsAnswer : {X : Type 0} → Result X ReadErr → Result X ReadErr → Type 0
+IsAnswer (Err Memory) wanted = Unit {0}
+IsAnswer (Err NotBuilt) wanted = Err NotBuilt ≡ wanted
+IsAnswer (Ok x) wanted = Ok x ≡ wanted

@@ -3,11 +3,16 @@
 
 mod error;
 mod dynamic;
+mod got;
 mod header;
 mod held;
 mod object;
+mod plain;
 mod refuse;
+mod relocations;
 mod segments;
+mod sites;
+mod tables;
 
 pub use elf_model::{ElfKind, ElfRefusal};
 pub use error::ReadErr;
