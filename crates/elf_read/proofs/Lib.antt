@@ -9,3 +9,4 @@ pub mod Ranges
 pub mod Filling
 pub mod Words
 pub mod Plainness
+pub mod Exact

@@ -40,3 +40,17 @@ impl<T: Drop> From<AllocFailed<T>> for TestErr {
         TestErr::Memory
     }
 }
+
+impl From<TestErr> for ReadErr {
+    ghost use Rattle.std.specs.Prelude.{◌≡◌};
+    ghost use Rattle.elf_read.specs.Reads.{read_err_of};
+
+    ghost from_gives = { λ t e. e ≡ read_err_of t };
+
+    fn from(error: TestErr) -> Self {
+        match error {
+            TestErr::Refused(_) => ReadErr::NotBuilt,
+            TestErr::Memory => ReadErr::Memory,
+        }
+    }
+}

@@ -52,7 +52,11 @@ fn check_machine(bytes: &[u8]) -> Result<(), TestErr>
 {
     refuse(half_in(bytes, 18) != EM_ARM, ElfKind::Machine, 18)?;
     let version = word_in(bytes, 36) >> 24;
-    refuse(version != u32::from(EF_ARM_EABI_VERSION), ElfKind::Machine, 36)
+    refuse(
+        version != u32::from(EF_ARM_EABI_VERSION),
+        ElfKind::Machine,
+        36,
+    )
 }
 
 #[tactic(auto, unfolding(elf_model::specs::Header::type_tests))]
@@ -75,7 +79,11 @@ fn check_program_table(bytes: &[u8]) -> Result<(), TestErr>
     let count = half_in(bytes, 44);
     refuse(count == 0, ElfKind::Header, 44)?;
     let size = usize::from(PHDR_SIZE) * usize::from(count);
-    refuse(passes_end(bytes, word_in(bytes, 28), size), ElfKind::Header, 28)
+    refuse(
+        passes_end(bytes, word_in(bytes, 28), size),
+        ElfKind::Header,
+        28,
+    )
 }
 
 #[tactic(auto, unfolding(elf_model::specs::Header::section_table_tests))]
@@ -89,7 +97,11 @@ fn check_section_table(bytes: &[u8]) -> Result<(), TestErr>
     }
     refuse(half_in(bytes, 46) != SHDR_SIZE, ElfKind::Header, 46)?;
     let size = usize::from(SHDR_SIZE) * usize::from(count);
-    refuse(passes_end(bytes, word_in(bytes, 32), size), ElfKind::Header, 32)?;
+    refuse(
+        passes_end(bytes, word_in(bytes, 32), size),
+        ElfKind::Header,
+        32,
+    )?;
     refuse(count <= half_in(bytes, 50), ElfKind::Header, 50)
 }
 

@@ -1,8 +1,8 @@
 //! The reader of executables and shared objects. Bytes are accepted exactly where they are an object.
 #![tactic(auto)]
 
-mod error;
 mod dynamic;
+mod error;
 mod got;
 mod header;
 mod held;
@@ -17,3 +17,6 @@ mod tables;
 pub use elf_model::{ElfKind, ElfRefusal};
 pub use error::ReadErr;
 pub use object::read_object;
+
+#[cfg(test)]
+mod tests;

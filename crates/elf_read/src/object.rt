@@ -26,9 +26,7 @@ use crate::relocations::{check_relocations, rels_of};
 use crate::segments::{loads, segments_of};
 use crate::tables::jmprel_entries;
 use elf_model::constants::{DT_PLTGOT, EHDR_SIZE, ET_EXEC, PHDR_SIZE};
-use elf_model::{
-    DynEntry, ElfKind, Inits, Kind, Object, ProgramHeader, Rels, Segments, Symbols,
-};
+use elf_model::{DynEntry, ElfKind, Inits, Kind, Object, ProgramHeader, Rels, Segments, Symbols};
 use fd_base::{Names, half_in, word_in};
 use std::alloc::Global;
 
@@ -87,7 +85,11 @@ fn read_got(bytes: &[u8], loads: &[ProgramHeader], entries: &[DynEntry]) -> Resu
     ensures tests { Reads (λ g. g) result (field.got_tests bytes.now) (field.got_or_zero bytes.now) }
     ensures in_place { IfOk result (λ g. is_in_place loads.now (got_header g) ≡ true) }
 {
-    check_got(loads, value_of(DT_PLTGOT, entries), dynamic_offset_or(bytes, 28))
+    check_got(
+        loads,
+        value_of(DT_PLTGOT, entries),
+        dynamic_offset_or(bytes, 28),
+    )
 }
 
 /// What the dynamic section says.
@@ -116,6 +118,77 @@ fn read_dynamic(alloc: Global, bytes: &[u8], loads: &[ProgramHeader]) -> Result<
     Ok(Dynamic { entries, got })
 }
 
+/// The slots.
+#[tactic(auto, using(elf_model::proofs::Tests::passed_over, elf_model::proofs::Tests::fails_first), unfolding(crate::specs::Plain::slot_tests, crate::specs::Plain::slot_conditions, elf_model::specs::Fields::jmprel_entries))]
+fn read_slots(
+    alloc: Global,
+    bytes: &[u8],
+    loads: &[ProgramHeader],
+    dynamic: &Dynamic,
+    segments: &Segments,
+) -> Result<Rels, TestErr>
+    requires small { length bytes.now < 2 ^ 32 }
+    requires in_file { All (segment.InFile (length bytes.now)) loads.now }
+    requires below { All (λ h. h.vaddr + h.memsz < 2 ^ 32) loads.now }
+    requires in_place { is_in_place loads.now (got_header dynamic.now.got) ≡ true }
+    requires are_loads { loads.now ≡ segment.loads bytes.now }
+    requires are_entries { dynamic.now.entries.items ≡ field.entries bytes.now }
+    requires is_got { dynamic.now.got ≡ field.got_or_zero bytes.now }
+    requires are_segments { segments.now ≡ segment.segments bytes.now }
+    ensures { Reads (λ r. r) result (spec.slot_tests bytes.now) (rels_of (field.jmprel_entries bytes.now)) }
+{
+    let entries = jmprel_entries(alloc, bytes, loads, &dynamic.entries)?;
+    let _taken = check_relocations(alloc, loads, 0, dynamic.got, &entries)?;
+    let slots = rels_of(alloc, &entries)?;
+    let is_plain = are_plain_slots(segments.as_slice(), slots.as_slice());
+    refuse(!is_plain, ElfKind::Header, 0)?;
+    Ok(slots)
+}
+
+/// What the object is for.
+fn kind_of(bytes: &[u8]) -> Kind
+    requires { EHDR_SIZE ≤ length bytes.now }
+    ensures { result ≡ header.kind bytes.now }
+{
+    if half_in(bytes, 16) == ET_EXEC {
+        Kind::Exec
+    } else {
+        Kind::Dyn
+    }
+}
+
+/// The object of a plain file.
+#[tactic(auto, using(elf_model::proofs::Tests::passed_over, elf_model::proofs::Tests::fails_first, crate::proofs::Plainness::plain_fields), unfolding(crate::specs::Plain::plain_tests))]
+fn plain_object(alloc: Global, bytes: &[u8]) -> Result<Object, TestErr>
+    requires { length bytes.now < 2 ^ 32 }
+    ensures { Reads (λ o. o) result (spec.plain_tests bytes.now) (object_of bytes.now) }
+{
+    let loads = read_start(alloc, bytes)?;
+    let dynamic = read_dynamic(alloc, bytes, &loads)?;
+    let segments = segments_of(alloc, bytes, &loads)?;
+    let jmprels = read_slots(alloc, bytes, &loads, &dynamic, &segments)?;
+    Ok(Object {
+        kind: kind_of(bytes),
+        entry: word_in(bytes, 24),
+        segments,
+        got: dynamic.got,
+        needed: Names::new(alloc),
+        soname: None,
+        symbols: Symbols::new(alloc),
+        rels: Rels::new(alloc),
+        jmprels,
+        fixups: None,
+        symbolic: false,
+        now: false,
+        inits: Inits {
+            init: None,
+            fini: None,
+            init_array: None,
+            fini_array: None,
+        },
+    })
+}
+
 /// Reads an object from the bytes of its file. `NotBuilt` comes exactly where the bytes are no plain object.
 pub fn read_object(alloc: Global, bytes: &[u8]) -> Result<Object, ReadErr>
     requires { length bytes.now < 2 ^ 32 - 1 }
@@ -123,7 +196,5 @@ pub fn read_object(alloc: Global, bytes: &[u8]) -> Result<Object, ReadErr>
     ensures only { (o : Object) → IsPlainObject bytes.now o → IsAnswer result (Ok o) }
     ensures sound { IfOk result IsSound }
 {
-    let _ = alloc;
-    let _ = bytes;
-    Err(ReadErr::Memory)
+    Ok(plain_object(alloc, bytes)?)
 }

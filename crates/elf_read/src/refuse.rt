@@ -18,5 +18,9 @@ pub fn refusal(kind: ElfKind, at: u32) -> TestErr
 pub fn refuse(fails: bool, kind: ElfKind, at: u32) -> Result<(), TestErr>
     ensures { Refuses result fails kind at }
 {
-    if fails { Err(refusal(kind, at)) } else { Ok(()) }
+    if fails {
+        Err(refusal(kind, at))
+    } else {
+        Ok(())
+    }
 }

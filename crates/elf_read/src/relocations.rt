@@ -64,7 +64,11 @@ fn check_entry(
     ensures taken { OnOk result ((sites : List Site) → Has taken.old sites → Has taken.new (sites ++ spec.sites_of (e.now ∷ []))) }
 {
     refuse(!is_kind_of(e.table, e.kind), ElfKind::RelocType, e.offset)?;
-    refuse(e.symbol != 0 && symbol_count <= e.symbol, ElfKind::Table, e.offset)?;
+    refuse(
+        e.symbol != 0 && symbol_count <= e.symbol,
+        ElfKind::Table,
+        e.offset,
+    )?;
     if !fills(e) {
         return Ok(());
     }

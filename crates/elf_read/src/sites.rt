@@ -89,12 +89,7 @@ impl Taken {
     }
 
     /// The tests of a site that is named at an offset of the file. Its words are taken where it passes them.
-    pub fn fill(
-        &mut self,
-        loads: &[ProgramHeader],
-        site: &Site,
-        offset: u32,
-    ) -> Result<(), TestErr>
+    pub fn fill(&mut self, loads: &[ProgramHeader], site: &Site, offset: u32) -> Result<(), TestErr>
         requires below { All (λ h. h.vaddr + h.memsz < 2 ^ 32) loads.now }
         requires whole { IsWhole site.now }
         ensures tests { (sites : List Site) → Has self.old sites → Passes result (spec.site_tests loads.now sites offset site.now) }
