@@ -1,3 +1,6 @@
 pub mod Tests
 pub mod Computing
 pub mod Examples
+pub mod SoundSegments
+pub mod SoundSites
+pub mod Soundness

@@ -1,5 +1,5 @@
 -- What it means that bytes are an executable or a shared object, and why others are none.
-use Rattle.std.specs.Prelude.{◌≡◌, ℕ, List, ◌++◌, Option, None}
+use Rattle.std.specs.Prelude.{◌≡◌, ℕ, List, ◌++◌, Option, Some, None}
 use Rattle.elf_model.specs.declared.refusal.ElfRefusal.{ElfRefusal}
 use Rattle.elf_model.specs.declared.object.Object.{Object}
 use Rattle.elf_model.specs.Test.{Test, first_failing}
@@ -77,3 +77,8 @@ object_of bytes = record {
 pub record IsObject (bytes : List ℕ) (o : Object) : Type 0 where
   pub passes : refusal_of bytes ≡ None
   pub fields : o ≡ object_of bytes
+
+-- two objects of the same bytes are one, and no test fails of the bytes of an object
+pub record OneObject : Type 0 where
+  pub same : (bytes : List ℕ) (a b : Object) → IsObject bytes a → IsObject bytes b → a ≡ b
+  pub exclusive : (bytes : List ℕ) (o : Object) (r : ElfRefusal) → IsObject bytes o → refusal_of bytes ≡ Some r → ⊥

@@ -1,7 +1,7 @@
 -- What holds of every accepted object, for those who place it: its segments fit and are apart, and whatever loading
 -- fills lies whole in one writable segment.
-use Rattle.std.specs.Prelude.{◌≡◌, ℕ, ◌+◌, ◌%◌, ◌^◌, ◌<◌, ◌≤◌, ◌⊎◌, true, List, [], ◌∷◌, length, All}
-use Rattle.elf_model.specs.declared.constants.TheConstants.{MAX_SEGMENTS, MAX_ENTRIES}
+use Rattle.std.specs.Prelude.{◌≡◌, ℕ, ◌+◌, ◌%◌, ◌^◌, ◌<◌, ◌≤◌, ◌⊎◌, true, List, length, All, AllPairs}
+use Rattle.elf_model.specs.declared.constants.TheConstants.{MAX_SEGMENTS, MAX_ENTRIES, R_ARM_FUNCDESC_VALUE}
 use Rattle.elf_model.specs.declared.table.Site.{Site}
 use Rattle.elf_model.specs.declared.object.Object.{Object}
 use Rattle.elf_model.specs.declared.object.Segment.{Segment}
@@ -14,10 +14,13 @@ pub record IsSized (s : Segment) : Type 0 where
   pub end : s.vaddr + s.memsz < 2 ^ 32
   pub filled : length s.filled ≤ s.memsz
 
--- no two segments share a link address
-abbrev pub AreApart : List Segment → Type 0
-AreApart [] = Unit {0}
-AreApart (s ∷ ss) = All (λ t. (s.vaddr + s.memsz ≤ t.vaddr) ⊎ (t.vaddr + t.memsz ≤ s.vaddr)) ss × AreApart ss
+-- two segments share no link address
+abbrev pub SegmentsApart : Segment → Segment → Type 0
+SegmentsApart s t = (s.vaddr + s.memsz ≤ t.vaddr) ⊎ (t.vaddr + t.memsz ≤ s.vaddr)
+
+-- two ranges share no link address
+abbrev pub RangesApart : Site → Site → Type 0
+RangesApart r q = (r.addr + r.size ≤ q.addr) ⊎ (q.addr + q.size ≤ r.addr)
 
 -- a range lies in the segment, or meets none of it
 abbrev pub IsWhole : Segment → Site → Type 0
@@ -30,18 +33,14 @@ pub record IsInPlace (ss : List Segment) (r : Site) : Type 0 where
   pub aligned : r.addr % 4 ≡ 0
   pub writable : is_writable_in ss r.addr r.size ≡ true
 
--- no two ranges share a link address
-abbrev pub AreDistinct : List Site → Type 0
-AreDistinct [] = Unit {0}
-AreDistinct (r ∷ rs) = All (λ q. (r.addr + r.size ≤ q.addr) ⊎ (q.addr + q.size ≤ r.addr)) rs × AreDistinct rs
-
 pub record IsSound (o : Object) : Type 0 where
   pub few : length o.segments ≤ MAX_SEGMENTS
-  pub apart : AreApart o.segments
+  pub apart : AllPairs SegmentsApart o.segments
   pub sized : All IsSized o.segments
   pub in_place : All (IsInPlace o.segments) (filled_ranges o)
   pub whole : All (λ s. All (IsWhole s) (filled_ranges o)) o.segments
-  pub distinct : AreDistinct (filled_ranges o)
+  pub distinct : AllPairs RangesApart (filled_ranges o)
+  pub slot_kinds : All (λ r. r.kind ≡ R_ARM_FUNCDESC_VALUE) o.jmprels
   pub few_rels : length o.rels ≤ MAX_ENTRIES
   pub few_slots : length o.jmprels ≤ MAX_ENTRIES
 

@@ -4,12 +4,14 @@
 
 pub mod constants;
 mod func;
+mod laws;
 mod object;
 mod refusal;
 mod relocatable;
 mod table;
 
 pub use func::Func;
+pub use laws::{accepted_is_sound, one_object};
 pub use object::{
     Extent, Inits, Kind, Object, Place, Rel, Rels, Segment, Segments, Symbol, Symbols,
 };

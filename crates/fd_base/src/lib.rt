@@ -1,10 +1,23 @@
 //! What every layer stands on: lists, names, little-endian words, printed numbers, stores and sinks.
 #![tactic(auto)]
 
+mod calls;
+mod host;
+mod map;
 mod name;
 mod seq;
+mod sink;
+mod store;
+#[cfg(test)]
+mod tests;
+mod text;
 mod words;
 
+pub use host::{DirStore, StdSink};
+pub use map::MapEntry;
 pub use name::{Name, NameErr};
 pub use seq::{Bytes, Memory, Names, Numbers, Seq, Words};
-pub use words::{half_at, half_in, word_at, word_in};
+pub use sink::{MemSink, Sink, SinkErr};
+pub use store::{FetchErr, MAX_FILE, MemStore, PutErr, Store};
+pub use text::{number, put_dec, put_hex8, put_shown};
+pub use words::{half_at, half_in, put_word, word_at, word_in};

@@ -1,6 +1,6 @@
 //! A list of values. Contracts see the list alone, and never the room that a vector reserves.
 
-ghost use Rattle.std.specs.Prelude.{◌≡◌, ◌↔◌, IsTrue, List, [], ◌∷◌, ◌++◌, length, IfOk, if◌then◌else◌, is_ok};
+ghost use Rattle.std.specs.Prelude.{◌≡◌, ◌↔◌, IsTrue, List, [], ◌∷◌, ◌++◌, length, take, IfOk, if◌then◌else◌, is_ok};
 
 use crate::name::Name;
 use std::alloc::{AllocError, Global};
@@ -86,6 +86,13 @@ impl<T: Drop> Seq<T> {
     {
         self.values.push(value)?;
         Ok(())
+    }
+
+    /// Keeps the first `len` values, or all where there are fewer.
+    pub fn truncate(&mut self, len: usize)
+        ensures { self.new ≡ take len self.old }
+    {
+        self.values.truncate(len)
     }
 }
 

@@ -46,3 +46,11 @@ pub fn half_at(bytes: &[u8], at: u32) -> Option<u16>
         None
     }
 }
+
+/// Puts a word at a place that is known to lie in the bytes. The other bytes stay.
+pub fn put_word(bytes: &mut [u8], at: u32, v: u32)
+    requires { at + 4 ≤ length bytes.old }
+    ensures { bytes.new ≡ spec.with_word bytes.old at v }
+{
+    LittleEndian::write_u32(&mut bytes[at as usize..], v);
+}

@@ -1,0 +1,15 @@
+//! Laws on the definition of an accepted object. A call of one does nothing.
+
+ghost use Rattle.elf_model.specs.Sound.{AcceptedIsSound};
+ghost use Rattle.elf_model.specs.Object.{OneObject};
+
+/// Bytes are at most one object, and none where a test fails.
+pub fn one_object()
+    ensures { OneObject }
+{}
+
+/// Whatever is accepted can be placed: its segments fit and are apart, and all that loading fills lies whole
+/// in one writable segment, apart from all else that it fills.
+pub fn accepted_is_sound()
+    ensures { AcceptedIsSound }
+{}

@@ -1,0 +1,15 @@
+//! Loading: the plan of a load, with every refusal and all memory that it takes, and its commit.
+#![tactic(auto)]
+
+mod error;
+mod loader;
+mod module;
+mod plan;
+
+pub use error::{LoadErr, LoadRefusal};
+pub use loader::Loader;
+pub use module::{
+    Added, GroupPlan, Image, LOAD_MAP_SIZE, LOAD_MAPS, LinkWord, LoadMap, MAX_MODULES, Module,
+    RESOLVER, SlotPair,
+};
+pub use plan::{DESCRIPTOR_SIZE, DESCRIPTORS, MemPlan, PlaceLine, Places, THREADS};

@@ -1,0 +1,142 @@
+-- Held ranges in another order, and ranges that meet nowhere.
+use Rattle.std.proofs.Common.{◌≡◌, ℕ, zero, suc, Option, Some, None, MatchOption, ◌<◌, ◌≤◌, ◌⊎◌, inl, inr, true, false, cond, ltb, List, [], ◌∷◌, ◌++◌, length, get_or, All, Contains, refl, subst, arith}
+use Rattle.std.proofs.lemmas.List.Elements.{All-nil, All-head, All-tail, All-weaker, All-contains, All-contains_itself, All-push, Contains-append_left, Contains-push, Contains-push_cases}
+use Rattle.placement.specs.declared.item.Held.{Held}
+use Rattle.placement.specs.declared.item.Item.{Item}
+use Rattle.placement.specs.Legal.{Apart, IsLegal, Chosen}
+use Rattle.placement.specs.Placed.{Placed, FailsAt, range_at}
+use Rattle.placement.specs.Space.{held_with, all_held, AreApart, SameRanges}
+
+-- what holds of all ranges holds of those that are among them
+all_among : (P : Held → Type 0) (xs ys : List Held) → ((r : Held) → Contains ys r → Contains xs r) → All P xs → All P ys
+all_among P xs ys among all = All-weaker (Contains ys) P (λ r here. All-contains P xs r all (among r here)) ys (All-contains_itself ys)
+
+legal_among : (low high at : ℕ) (xs ys : List Held) (item : Item) → ((r : Held) → Contains ys r → Contains xs r) → IsLegal low high xs item at → IsLegal low high ys item at
+legal_among low high at xs ys item among legal = record {
+  above = legal.above;
+  below = legal.below;
+  congruent = legal.congruent;
+  apart = all_among (Apart at item.memsz) xs ys among legal.apart;
+}
+
+-- a choice among legal addresses is one among others that are the same
+choice_same : (choice : Option ℕ) (K L : ℕ → Type 0) (at : ℕ) → ((b : ℕ) → L b → K b)
+    → MatchOption choice ((b : ℕ) → K b → at ≤ b) (λ listed. at ≡ listed) → MatchOption choice ((b : ℕ) → L b → at ≤ b) (λ listed. at ≡ listed)
+choice_same None K L at back least = λ b legal. least b (back b legal)
+choice_same (Some listed) K L at back is = is
+
+none_same : (choice : Option ℕ) (K L : ℕ → Type 0) → ((b : ℕ) → L b → K b)
+    → MatchOption choice ((b : ℕ) → ¬ K b) (λ listed. ¬ K listed) → MatchOption choice ((b : ℕ) → ¬ L b) (λ listed. ¬ L listed)
+none_same None K L back none = λ b legal. none b (back b legal)
+none_same (Some listed) K L back none = λ legal. none (back listed legal)
+
+chosen_same : (low high at : ℕ) (xs ys : List Held) (item : Item) → SameRanges xs ys → Chosen low high xs item at → Chosen low high ys item at
+chosen_same low high at xs ys item same chosen = record {
+  legal = legal_among low high at xs ys item (λ r. (same r).1) chosen.legal;
+  choice = choice_same item.at (IsLegal low high xs item) (IsLegal low high ys item) at (λ b. legal_among low high b ys xs item (λ r. (same r).0)) chosen.choice;
+}
+
+pushed_among : (xs ys : List Held) (new r : Held) → ((q : Held) → Contains xs q → Contains ys q) → Contains (xs ++ new ∷ []) r → Contains (ys ++ new ∷ []) r
+pushed_among xs ys new r among here =
+    elim (Contains-push_cases xs new r here) [
+      | inl before ↦ Contains-append_left ys (new ∷ []) r (among r before)
+      | inr is ↦ subst (Contains (ys ++ new ∷ [])) is (Contains-push ys new)
+    ]
+
+same_pushed : (xs ys : List Held) (new : Held) → SameRanges xs ys → SameRanges (xs ++ new ∷ []) (ys ++ new ∷ [])
+same_pushed xs ys new same = λ r. (pushed_among xs ys new r (λ q. (same q).0), pushed_among ys xs new r (λ q. (same q).1))
+
+pub placed_same : (low high : ℕ) (xs ys : List Held) (items : List Item) (addrs : List ℕ) → SameRanges xs ys → Placed low high xs items addrs → Placed low high ys items addrs
+placed_same low high xs ys [] [] same p = p
+placed_same low high xs ys [] (at ∷ addrs) same p = p
+placed_same low high xs ys (item ∷ items) [] same p = p
+placed_same low high xs ys (item ∷ items) (at ∷ addrs) same p =
+    (chosen_same low high at xs ys item same p.0, placed_same low high _ _ items addrs (same_pushed xs ys (range_at item at) same) p.1)
+
+pub fails_same : (low high : ℕ) (xs ys : List Held) (items : List Item) (n : ℕ) → SameRanges xs ys → FailsAt low high xs items n → FailsAt low high ys items n
+fails_same low high xs ys [] n same f = f
+fails_same low high xs ys (item ∷ items) zero same f =
+    none_same item.at (IsLegal low high xs item) (IsLegal low high ys item) (λ b. legal_among low high b ys xs item (λ r. (same r).0)) f
+fails_same low high xs ys (item ∷ items) (suc n) same f =
+    (f.0, chosen_same low high f.0 xs ys item same f.1, fails_same low high _ _ items n (same_pushed xs ys (range_at item f.0) same) f.2)
+
+contains_first : (first r : Held) (held : List Held) → first ≡ r → Contains (first ∷ held) r
+contains_first first r held is = (zero, omega arith, is)
+
+contains_later : (first r : Held) (held : List Held) → Contains held r → Contains (first ∷ held) r
+contains_later first r held here = (suc here.0, omega (arith, here.1), here.2)
+
+first_or_later : (first r : Held) (held : List Held) → Contains (first ∷ held) r → (first ≡ r) ⊎ Contains held r
+first_or_later first r held here = by_place here.0 here.1 here.2
+  where
+    by_place : (k : ℕ) → k < suc (length held) → get_or (first ∷ held) k r ≡ r → (first ≡ r) ⊎ Contains held r
+    by_place zero within is = inl is
+    by_place (suc k) within is = inr (k, omega arith, is)
+
+-- a range is among those with a new one exactly where it was held or is the new one
+held_or_new : (new r : Held) (held : List Held) → Contains (held_with new held) r → Contains (held ++ new ∷ []) r
+held_or_new new r [] here = here
+held_or_new new r (first ∷ held) here =
+    elim (ltb first.start new.start) as (λ b. Contains (cond b (first ∷ held_with new held) (new ∷ first ∷ held)) r → Contains (first ∷ held ++ new ∷ []) r) [
+      | true ↦ λ at. elim (first_or_later first r (held_with new held) at) [
+        | inl is ↦ contains_first first r (held ++ new ∷ []) is
+        | inr later ↦ contains_later first r (held ++ new ∷ []) (held_or_new new r held later)
+      ]
+      | false ↦ λ at. elim (first_or_later new r (first ∷ held) at) [
+        | inl is ↦ subst (Contains (first ∷ held ++ new ∷ [])) is (Contains-push (first ∷ held) new)
+        | inr later ↦ Contains-append_left (first ∷ held) (new ∷ []) r later
+      ]
+    ] here
+
+still_held : (new r : Held) (held : List Held) → Contains held r → Contains (held_with new held) r
+still_held new r [] here = absurd (omega (arith, here.1))
+still_held new r (first ∷ held) here =
+    elim (ltb first.start new.start) as (λ b. Contains (cond b (first ∷ held_with new held) (new ∷ first ∷ held)) r) [
+      | true ↦ elim (first_or_later first r held here) [
+        | inl is ↦ contains_first first r (held_with new held) is
+        | inr later ↦ contains_later first r (held_with new held) (still_held new r held later)
+      ]
+      | false ↦ contains_later new r (first ∷ held) here
+    ]
+
+new_held : (new : Held) (held : List Held) → Contains (held_with new held) new
+new_held new [] = contains_first new new [] refl
+new_held new (first ∷ held) =
+    elim (ltb first.start new.start) as (λ b. Contains (cond b (first ∷ held_with new held) (new ∷ first ∷ held)) new) [
+      | true ↦ contains_later first new (held_with new held) (new_held new held)
+      | false ↦ contains_first new new (first ∷ held) refl
+    ]
+
+pub same_with : (new : Held) (held : List Held) → SameRanges (held ++ new ∷ []) (held_with new held)
+same_with new held = λ r. (back r, held_or_new new r held)
+  where
+    back : (r : Held) → Contains (held ++ new ∷ []) r → Contains (held_with new held) r
+    back r here =
+        elim (Contains-push_cases held new r here) [
+          | inl before ↦ still_held new r held before
+          | inr is ↦ subst (Contains (held_with new held)) is (new_held new held)
+        ]
+
+turned : (a b : Held) → Apart a.start a.len b → Apart b.start b.len a
+turned a b apart = elim apart [ inl h ↦ inr h | inr h ↦ inl h ]
+
+-- a new range that meets none of those that meet nowhere
+apart_with : (new : Held) (held : List Held) → All (Apart new.start new.len) held → AreApart held → AreApart (held_with new held)
+apart_with new [] away apart = (All-nil (Apart new.start new.len), tt)
+apart_with new (first ∷ held) away apart =
+    elim (ltb first.start new.start) as (λ b. AreApart (cond b (first ∷ held_with new held) (new ∷ first ∷ held))) [
+      | true ↦ (
+        all_among (Apart first.start first.len) (held ++ new ∷ []) (held_with new held) (λ r. held_or_new new r held)
+            (All-push (Apart first.start first.len) held new apart.0 (turned new first (All-head (Apart new.start new.len) first held away))),
+        apart_with new held (All-tail (Apart new.start new.len) first held away) apart.1,
+      )
+      | false ↦ (away, apart)
+    ]
+
+pub apart_all : (low high : ℕ) (held : List Held) (items : List Item) (addrs : List ℕ) → AreApart held → Placed low high held items addrs → AreApart (all_held items addrs held)
+apart_all low high held [] addrs apart p = apart
+apart_all low high held (item ∷ items) [] apart p = apart
+apart_all low high held (item ∷ items) (at ∷ addrs) apart p =
+    let new = range_at item at in
+    apart_all low high (held_with new held) items addrs (apart_with new held p.0.legal.apart apart)
+    (placed_same low high (held ++ new ∷ []) (held_with new held) items addrs (same_with new held) p.1)

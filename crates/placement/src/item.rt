@@ -1,0 +1,32 @@
+//! What is placed, and what is held.
+
+use fd_base::Seq;
+
+/// What is to be placed, as one segment of a module.
+#[derive(Clone, Copy, Debug)]
+pub struct Item {
+    /// Whose range it becomes: a number below 512.
+    pub owner: u32,
+    /// The link address, which the placed one is congruent to.
+    pub vaddr: u32,
+    /// How many bytes it takes, above 0.
+    pub memsz: u32,
+    /// The alignment. Placing raises it to at least 16 and cuts it to at most 4,096.
+    pub align: u32,
+    /// The listed address. Without one the item goes to the lowest legal address.
+    pub at: Option<u32>,
+}
+
+/// A range of addresses with its owner.
+#[derive(Clone, Copy, Debug)]
+pub struct Held {
+    pub owner: u32,
+    pub start: u32,
+    /// How many bytes are held from the start on.
+    pub len: u32,
+}
+
+/// Items in the order in which they are placed.
+pub type Items = Seq<Item>;
+/// Addresses in order, as those of items.
+pub type Addrs = Seq<u32>;
