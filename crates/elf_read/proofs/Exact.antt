@@ -1,11 +1,9 @@
 -- The tests that are made are those of a plain object.
-use Rattle.std.proofs.Common.{◌≡◌, ℕ, ◌+◌, Bool, true, false, cond, ◌&&◌, List, [], ◌∷◌, ◌++◌, Option, Some, None, Result, Ok, Err, refl, sym as turned, ap, ◌∙◌, subst}
-use Rattle.std.specs.Prelude.{◌==◌, not}
+use Rattle.std.proofs.Common.{◌≡◌, ℕ, Bool, true, false, ◌&&◌, List, ◌++◌, Some, None, Result, Ok, Err, refl, sym as turned, ap, ◌∙◌, subst}
+use Rattle.std.specs.Prelude.{◌==◌}
 use Rattle.std.specs.List.{list_all}
 use Rattle.std.proofs.lemmas.Bool.{eqb-true}
-use Rattle.std.proofs.Common.{eq-eqb}
 use Rattle.elf_model.specs.declared.object.Object.{Object}
-use Rattle.elf_model.specs.declared.refusal.ElfRefusal.{ElfRefusal}
 use Rattle.elf_model.specs.declared.table.RelEntry.{RelEntry}
 use Rattle.elf_model.specs.Test.{Test, first_failing}
 use Rattle.elf_model.specs.declared.constants.TheConstants.{DT_REL, DT_RELSZ, DT_JMPREL, DT_PLTRELSZ}
@@ -16,7 +14,7 @@ use Rattle.elf_model.specs.Dynamic.{dynamic_range_tests, dynamic_offset_or, all_
 use Rattle.elf_model.specs.Symbols.{count_tests, all_symbol_tests}
 use Rattle.elf_model.specs.Relocations.{both_table_tests, rel_table_tests, all_rel_tests, rels_of}
 use Rattle.elf_model.specs.Fields as field
-use Rattle.elf_model.specs.Object.{IsObject, refusal_of, tests, all_segment_tests, dynamic_tests, name_tests, relocation_tests, object_of}
+use Rattle.elf_model.specs.Object.{tests, all_segment_tests, dynamic_tests, name_tests, relocation_tests, object_of}
 use Rattle.elf_model.specs.Plain.{IsPlainObject, is_plain, has_plain_headers, has_plain_entries, is_plain_slot}
 use Rattle.elf_model.proofs.Tests.{both_pass, passed_over}
 use Rattle.elf_read.specs.declared.error.TestErr.{TestErr}

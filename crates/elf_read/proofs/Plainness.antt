@@ -1,12 +1,10 @@
 -- What holds of the files whose headers and entries are those of a plain object.
-use Rattle.std.proofs.Common.{◌≡◌, ℕ, ◌-◌, Bool, true, false, cond, ◌&&◌, List, [], ◌∷◌, ◌++◌, Option, Some, None, refl, sym, ap, ◌∙◌, subst}
+use Rattle.std.proofs.Common.{◌≡◌, ℕ, Bool, true, false, ◌&&◌, List, [], ◌∷◌, ◌++◌, None, refl, ap, ◌∙◌, subst}
 use Rattle.std.specs.Prelude.{◌==◌, filter}
 use Rattle.std.proofs.lemmas.Bool.{eqb-true}
 use Rattle.elf_model.specs.declared.constants.TheConstants.{DT_NEEDED, DT_STRTAB, DT_SYMTAB, DT_SONAME, DT_REL, DT_RELSZ, DT_FLAGS, DT_SYMBOLIC, DT_BIND_NOW, DT_INIT, DT_FINI, DT_INIT_ARRAY, DT_FINI_ARRAY}
 use Rattle.elf_model.specs.declared.table.DynEntry.{DynEntry}
 use Rattle.elf_model.specs.declared.table.RelEntry.{RelEntry}
-use Rattle.elf_model.specs.declared.object.Inits.{Inits}
-use Rattle.elf_model.specs.declared.object.Object.{Object}
 use Rattle.elf_model.specs.Test.{first_failing, each_below, each_from}
 use Rattle.elf_model.specs.Header.{e_shnum, e_entry, kind}
 use Rattle.elf_model.specs.Segments.{loads, segments}

@@ -71,7 +71,7 @@ fn plain_objects(rt: HostRuntime) -> Result<(), Fail> {
     ];
     for (data, filesz, jmprels) in files {
         let bytes = file(rt.alloc(), data, None)?;
-        assert!(rt; bytes.len() < 1000);
+        assert!(rt; 148 <= bytes.len() && bytes.len() < 1000);
         let o = read_object(rt.alloc(), &bytes).ok().ok_or("refused")?;
         assert_eq!(rt; (o.kind, o.entry, o.got), (Kind::Dyn, 0, 0x10000));
         let segments = o.segments.as_slice();
