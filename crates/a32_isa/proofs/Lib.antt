@@ -1,0 +1,6 @@
+pub mod Fields
+pub mod Widths
+pub mod Sound
+pub mod Complete
+pub mod Encoded
+pub mod RoundTrips

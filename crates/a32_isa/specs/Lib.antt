@@ -1,0 +1,5 @@
+pub mod Fields
+pub mod Registers
+pub mod Allowed
+pub mod Table
+pub mod Decoding

@@ -1,0 +1,14 @@
+//! The A32 integer subset: its instruction table, words decoded and encoded, and instructions printed.
+#![tactic(auto)]
+
+mod allowed;
+mod bits;
+mod decoder;
+mod encoder;
+mod instr;
+mod laws;
+
+pub use decoder::decode;
+pub use encoder::encode;
+pub use instr::{Arg, HalfOff, Instr, MemOff, Op};
+pub use laws::{one_instruction, one_word, round_trips};
