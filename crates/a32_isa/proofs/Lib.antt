@@ -4,3 +4,4 @@ pub mod Sound
 pub mod Complete
 pub mod Encoded
 pub mod RoundTrips
+pub mod Parts

@@ -3,3 +3,6 @@ pub mod Registers
 pub mod Allowed
 pub mod Table
 pub mod Decoding
+pub mod Names
+pub mod Immediate
+pub mod Text

@@ -5,10 +5,16 @@ mod allowed;
 mod bits;
 mod decoder;
 mod encoder;
+mod immediate;
 mod instr;
 mod laws;
+mod names;
+mod operands;
+mod printer;
+mod puts;
 
 pub use decoder::decode;
 pub use encoder::encode;
 pub use instr::{Arg, HalfOff, Instr, MemOff, Op};
 pub use laws::{one_instruction, one_word, round_trips};
+pub use printer::print;
