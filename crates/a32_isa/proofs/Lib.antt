@@ -2,6 +2,5 @@ pub mod Fields
 pub mod Widths
 pub mod Sound
 pub mod Complete
-pub mod Encoded
 pub mod RoundTrips
 pub mod Parts

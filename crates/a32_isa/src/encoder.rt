@@ -6,6 +6,7 @@ ghost use Rattle.a32_isa.specs.Allowed.{is_allowed};
 ghost use Rattle.a32_isa.specs.Table.{IsInstr, IsInstruction, arg_fields, op_fields, mem_off_fields, half_code, half_high, half_low};
 ghost use Rattle.a32_isa.specs.declared.instr.Op.TheVariants.{Data, Mem, Half};
 
+use crate::addressing::Addressing;
 use crate::instr::{Arg, HalfOff, Instr, MemOff, Op};
 
 /// A number with its lowest bit at a place.
@@ -87,13 +88,18 @@ fn multiply_bits(s: bool, hi: u8, lo: u8, s2: u8, m: u8) -> u32
     flag(s, 20) + placed(hi, 16) + placed(lo, 12) + placed(s2, 8) + 0x90 + m as u32
 }
 
-/// How a load or store finds its address: `fourth` is the flag between U and W.
-fn address_bits(p: bool, u: bool, fourth: bool, w: bool, load: bool, n: u8) -> u32
-    requires { n < 16 }
-    ensures value { result ≡ bit p * 2 ^ 24 + bit u * 2 ^ 23 + bit fourth * 2 ^ 22 + bit w * 2 ^ 21 + bit load * 2 ^ 20 + n * 2 ^ 16 }
+/// The flags of an address and its base, with the flag between U and W and the one behind W.
+fn address_bits(at: &Addressing, fourth: bool, load: bool) -> u32
+    requires { at.now.n < 16 }
+    ensures value { result ≡ bit at.now.p * 2 ^ 24 + bit at.now.u * 2 ^ 23 + bit fourth * 2 ^ 22 + bit at.now.w * 2 ^ 21 + bit load * 2 ^ 20 + at.now.n * 2 ^ 16 }
     ensures fits { result + 2 ^ 16 ≤ 2 ^ 25 }
 {
-    flag(p, 24) + flag(u, 23) + flag(fourth, 22) + flag(w, 21) + flag(load, 20) + placed(n, 16)
+    flag(at.p, 24)
+        + flag(at.u, 23)
+        + flag(fourth, 22)
+        + flag(at.w, 21)
+        + flag(load, 20)
+        + placed(at.n, 16)
 }
 
 /// A register and an immediate of 16 bits in two parts.
@@ -107,7 +113,7 @@ fn wide_bits(d: u8, imm16: u16) -> u32
 
 fn data_word(op: u8, s: bool, n: u8, d: u8, arg: &Arg) -> u32
     requires { Fit (op_fields (Data op s n d arg.now)) }
-    ensures value { result ≡ number_of (op_fields (Data op s n d arg.now)) }
+    ensures { result ≡ number_of (op_fields (Data op s n d arg.now)) }
 {
     let class = match *arg {
         Arg::Imm { .. } => 1,
@@ -116,27 +122,27 @@ fn data_word(op: u8, s: bool, n: u8, d: u8, arg: &Arg) -> u32
     placed(class, 25) + placed(op, 21) + flag(s, 20) + placed(n, 16) + placed(d, 12) + arg_bits(arg)
 }
 
-fn mem_word(load: bool, byte: bool, p: bool, u: bool, w: bool, n: u8, d: u8, off: &MemOff) -> u32
-    requires { Fit (op_fields (Mem load byte p u w n d off.now)) }
-    ensures value { result ≡ number_of (op_fields (Mem load byte p u w n d off.now)) }
+fn mem_word(load: bool, byte: bool, at: &Addressing, d: u8, off: &MemOff) -> u32
+    requires { Fit (op_fields (Mem load byte at.now.p at.now.u at.now.w at.now.n d off.now)) }
+    ensures { result ≡ number_of (op_fields (Mem load byte at.now.p at.now.u at.now.w at.now.n d off.now)) }
 {
     let class = match *off {
         MemOff::Imm(_) => 2,
         MemOff::Reg { .. } => 3,
     };
-    placed(class, 25) + address_bits(p, u, byte, w, load, n) + placed(d, 12) + mem_off_bits(off)
+    placed(class, 25) + address_bits(at, byte, load) + placed(d, 12) + mem_off_bits(off)
 }
 
-fn half_word(kind: u8, p: bool, u: bool, w: bool, n: u8, d: u8, off: &HalfOff) -> u32
-    requires fit { Fit (op_fields (Half kind p u w n d off.now)) }
+fn half_word(kind: u8, at: &Addressing, d: u8, off: &HalfOff) -> u32
+    requires fit { Fit (op_fields (Half kind at.now.p at.now.u at.now.w at.now.n d off.now)) }
     requires kind { kind < 4 }
-    ensures value { result ≡ number_of (op_fields (Half kind p u w n d off.now)) }
+    ensures { result ≡ number_of (op_fields (Half kind at.now.p at.now.u at.now.w at.now.n d off.now)) }
 {
     let immediate = match *off {
         HalfOff::Imm(_) => true,
         HalfOff::Reg(_) => false,
     };
-    address_bits(p, u, immediate, w, kind != 0, n) + placed(d, 12) + half_bits(kind, off)
+    address_bits(at, immediate, kind != 0) + placed(d, 12) + half_bits(kind, off)
 }
 
 fn op_word(op: &Op) -> u32
@@ -169,7 +175,7 @@ fn op_word(op: &Op) -> u32
             n,
             d,
             off,
-        } => mem_word(load, byte, p, u, w, n, d, &off),
+        } => mem_word(load, byte, &Addressing { p, u, w, n }, d, &off),
         Op::Half {
             kind,
             p,
@@ -178,7 +184,7 @@ fn op_word(op: &Op) -> u32
             n,
             d,
             off,
-        } => half_word(kind, p, u, w, n, d, &off),
+        } => half_word(kind, &Addressing { p, u, w, n }, d, &off),
         Op::Multi {
             load,
             p,
@@ -186,7 +192,7 @@ fn op_word(op: &Op) -> u32
             w,
             n,
             list,
-        } => 0x0800_0000 + address_bits(p, u, false, w, load, n) + list as u32,
+        } => 0x0800_0000 + address_bits(&Addressing { p, u, w, n }, false, load) + list as u32,
         Op::Branch { link, imm24 } => 0x0a00_0000 + flag(link, 24) + imm24,
         Op::Bx { m } => 0x012f_ff10 + m as u32,
         Op::Blx { m } => 0x012f_ff30 + m as u32,

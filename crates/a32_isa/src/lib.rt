@@ -1,6 +1,7 @@
 //! The A32 integer subset: its instruction table, words decoded and encoded, and instructions printed.
 #![tactic(auto)]
 
+mod addressing;
 mod allowed;
 mod bits;
 mod decoder;

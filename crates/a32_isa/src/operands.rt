@@ -4,8 +4,9 @@ ghost use Rattle.std.specs.Prelude.{◌≡◌, ◌<◌, ◌^◌, ◌++◌, [], �
 ghost use Rattle.a32_isa.specs.Names.{register_name};
 ghost use Rattle.a32_isa.specs.Fields.{Fit};
 ghost use Rattle.a32_isa.specs.Table.{arg_fields, mem_off_fields, half_high, half_low};
-ghost use Rattle.a32_isa.specs.Text.{after, parted, data_registers, shift_operands, constant_operands, arg_operands, mem_off_operands, half_off_operands, address_operands, list_operand, branch_operand, where_set};
+ghost use Rattle.a32_isa.specs.Text.{after, parted, data_registers, shift_operands, constant_operands, arg_operands, mem_off_operands, half_off_operands, address_operands, list_operand, branch_operand, where_set, immediate};
 
+use crate::addressing::Addressing;
 use crate::allowed::{is_comparison, is_listed, is_move};
 use crate::immediate::{constant_of, is_lowest};
 use crate::instr::{Arg, HalfOff, MemOff};
@@ -51,7 +52,7 @@ fn put_constant(out: &mut Bytes, rot: u8, imm: u8) -> Result<(), Memory>
 }
 
 /// The last operand of a data operation, behind a comma.
-pub fn put_arg(out: &mut Bytes, arg: &Arg) -> Result<(), Memory>
+fn put_arg(out: &mut Bytes, arg: &Arg) -> Result<(), Memory>
     requires { Fit (arg_fields arg.now) }
     ensures { OnOk result (out.new ≡ out.old ++ after (arg_operands arg.now)) }
 {
@@ -72,7 +73,7 @@ pub fn put_arg(out: &mut Bytes, arg: &Arg) -> Result<(), Memory>
 }
 
 /// The registers of a data operation but for its last operand.
-pub fn put_data_registers(out: &mut Bytes, op: u8, n: u8, d: u8) -> Result<(), Memory>
+fn put_data_registers(out: &mut Bytes, op: u8, n: u8, d: u8) -> Result<(), Memory>
     requires n { n < 16 }
     requires d { d < 16 }
     ensures { OnOk result (out.new ≡ out.old ++ parted (map register_name (data_registers op n d))) }
@@ -85,6 +86,26 @@ pub fn put_data_registers(out: &mut Bytes, op: u8, n: u8, d: u8) -> Result<(), M
         return Ok(());
     }
     put_next_register(out, n)
+}
+
+pub fn put_data(out: &mut Bytes, op: u8, n: u8, d: u8, arg: &Arg) -> Result<(), Memory>
+    requires n { n < 16 }
+    requires d { d < 16 }
+    requires arg { Fit (arg_fields arg.now) }
+    ensures { OnOk result (out.new ≡ out.old ++ parted (map register_name (data_registers op n d) ++ arg_operands arg.now)) }
+{
+    put_data_registers(out, op, n, d)?;
+    put_arg(out, arg)
+}
+
+/// A register and an immediate.
+pub fn put_wide(out: &mut Bytes, d: u8, imm16: u16) -> Result<(), Memory>
+    requires { d < 16 }
+    ensures { OnOk result (out.new ≡ out.old ++ parted (register_name d ∷ immediate imm16 ∷ [])) }
+{
+    put_register(out, d)?;
+    put_text(out, ", ")?;
+    put_immediate(out, imm16 as u32)
 }
 
 /// The offset of an address, behind a comma.
@@ -102,28 +123,23 @@ fn put_mem_off(out: &mut Bytes, up: bool, off: &MemOff) -> Result<(), Memory>
     }
 }
 
-/// An address, behind a comma.
-pub fn put_address(
-    out: &mut Bytes,
-    p: bool,
-    u: bool,
-    w: bool,
-    n: u8,
-    off: &MemOff,
-) -> Result<(), Memory>
-    requires n { n < 16 }
+/// The register that is loaded or stored, and the address.
+pub fn put_mem(out: &mut Bytes, d: u8, at: &Addressing, off: &MemOff) -> Result<(), Memory>
+    requires d { d < 16 }
+    requires n { at.now.n < 16 }
     requires off { Fit (mem_off_fields off.now) }
-    ensures { OnOk result (out.new ≡ out.old ++ after (address_operands p w n (mem_off_operands u off.now))) }
+    ensures { OnOk result (out.new ≡ out.old ++ parted (register_name d ∷ address_operands at.now.p at.now.w at.now.n (mem_off_operands at.now.u off.now))) }
 {
+    put_register(out, d)?;
     put_text(out, ", [")?;
-    put_register(out, n)?;
-    if p {
-        put_mem_off(out, u, off)?;
+    put_register(out, at.n)?;
+    if at.p {
+        put_mem_off(out, at.u, off)?;
         put_text(out, "]")?;
-        put_where_set(out, w, "!")
+        put_where_set(out, at.w, "!")
     } else {
         put_text(out, "]")?;
-        put_mem_off(out, u, off)
+        put_mem_off(out, at.u, off)
     }
 }
 
@@ -142,20 +158,14 @@ fn word_off(off: &HalfOff) -> MemOff
 }
 
 /// The same of a halfword or a signed byte.
-pub fn put_half_address(
-    out: &mut Bytes,
-    p: bool,
-    u: bool,
-    w: bool,
-    n: u8,
-    off: &HalfOff,
-) -> Result<(), Memory>
-    requires n { n < 16 }
+pub fn put_half(out: &mut Bytes, d: u8, at: &Addressing, off: &HalfOff) -> Result<(), Memory>
+    requires d { d < 16 }
+    requires n { at.now.n < 16 }
     requires high { half_high off.now < 16 }
     requires low { half_low off.now < 16 }
-    ensures { OnOk result (out.new ≡ out.old ++ after (address_operands p w n (half_off_operands u off.now))) }
+    ensures { OnOk result (out.new ≡ out.old ++ parted (register_name d ∷ address_operands at.now.p at.now.w at.now.n (half_off_operands at.now.u off.now))) }
 {
-    put_address(out, p, u, w, n, &word_off(off))
+    put_mem(out, d, at, &word_off(off))
 }
 
 /// How far a branch goes.
@@ -192,7 +202,7 @@ pub fn put_registers(out: &mut Bytes, registers: &[u8]) -> Result<(), Memory>
 
 /// The registers of a list, parted by commas, in braces.
 #[tactic(auto, unfolding(crate::specs::Text::listed_below))]
-pub fn put_list(out: &mut Bytes, list: u16) -> Result<(), Memory>
+fn put_list(out: &mut Bytes, list: u16) -> Result<(), Memory>
     ensures { OnOk result (out.new ≡ out.old ++ list_operand list) }
 {
     put_text(out, "{")?;
@@ -204,4 +214,15 @@ pub fn put_list(out: &mut Bytes, list: u16) -> Result<(), Memory>
         }
     }
     put_text(out, "}")
+}
+
+/// The base of a multiple load or store, and its list.
+pub fn put_multi(out: &mut Bytes, w: bool, n: u8, list: u16) -> Result<(), Memory>
+    requires { n < 16 }
+    ensures { OnOk result (out.new ≡ out.old ++ parted ((register_name n ++ where_set w (codes "!")) ∷ list_operand list ∷ [])) }
+{
+    put_register(out, n)?;
+    put_where_set(out, w, "!")?;
+    put_text(out, ", ")?;
+    put_list(out, list)
 }

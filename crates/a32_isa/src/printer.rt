@@ -6,11 +6,12 @@ ghost use Rattle.a32_isa.specs.Allowed.{is_allowed};
 ghost use Rattle.a32_isa.specs.Table.{IsInstr, op_fields};
 ghost use Rattle.a32_isa.specs.Text.{op_name, behind_space, mode_name, operands_of, text_of, where_set};
 
+use crate::addressing::Addressing;
 use crate::allowed::is_comparison;
 use crate::instr::{Instr, Op};
 use crate::names::{condition_name, data_name, half_name, long_name};
 use crate::operands::{
-    put_address, put_arg, put_branch, put_data_registers, put_half_address, put_list, put_registers,
+    put_branch, put_data, put_half, put_mem, put_multi, put_registers, put_wide,
 };
 use crate::puts::{put_immediate, put_register, put_text, put_where_set};
 use fd_base::{Bytes, Memory};
@@ -71,19 +72,12 @@ fn put_operands(out: &mut Bytes, op: &Op) -> Result<(), Memory>
     }
     put_text(out, " ")?;
     match *op {
-        Op::Data { op, n, d, arg, .. } => {
-            put_data_registers(out, op, n, d)?;
-            put_arg(out, &arg)
-        }
+        Op::Data { op, n, d, arg, .. } => put_data(out, op, n, d, &arg),
         Op::Mul { d, s2, m, .. } => put_registers(out, &[d, m, s2]),
         Op::Mla { d, n, s2, m, .. } => put_registers(out, &[d, m, s2, n]),
         Op::Long { hi, lo, s2, m, .. } => put_registers(out, &[lo, hi, m, s2]),
         Op::Clz { d, m } => put_registers(out, &[d, m]),
-        Op::Movw { d, imm16 } | Op::Movt { d, imm16 } => {
-            put_register(out, d)?;
-            put_text(out, ", ")?;
-            put_immediate(out, imm16 as u32)
-        }
+        Op::Movw { d, imm16 } | Op::Movt { d, imm16 } => put_wide(out, d, imm16),
         Op::Nop => Ok(()),
         Op::Mem {
             p,
@@ -93,10 +87,7 @@ fn put_operands(out: &mut Bytes, op: &Op) -> Result<(), Memory>
             d,
             off,
             ..
-        } => {
-            put_register(out, d)?;
-            put_address(out, p, u, w, n, &off)
-        }
+        } => put_mem(out, d, &Addressing { p, u, w, n }, &off),
         Op::Half {
             p,
             u,
@@ -105,16 +96,8 @@ fn put_operands(out: &mut Bytes, op: &Op) -> Result<(), Memory>
             d,
             off,
             ..
-        } => {
-            put_register(out, d)?;
-            put_half_address(out, p, u, w, n, &off)
-        }
-        Op::Multi { w, n, list, .. } => {
-            put_register(out, n)?;
-            put_where_set(out, w, "!")?;
-            put_text(out, ", ")?;
-            put_list(out, list)
-        }
+        } => put_half(out, d, &Addressing { p, u, w, n }, &off),
+        Op::Multi { w, n, list, .. } => put_multi(out, w, n, list),
         Op::Branch { imm24, .. } => put_branch(out, imm24),
         Op::Bx { m } | Op::Blx { m } => put_register(out, m),
         Op::Svc { imm24 } => put_immediate(out, imm24),
