@@ -13,6 +13,8 @@ mod names;
 mod operands;
 mod printer;
 mod puts;
+#[cfg(test)]
+mod tests;
 
 pub use decoder::decode;
 pub use encoder::encode;
