@@ -1,8 +1,8 @@
 -- A row's instruction is decoded.
-use Rattle.std.proofs.Common.{◌≡◌, ◌↔◌, ℕ, zero, suc, ◌+◌, ◌*◌, ◌^◌, Bool, true, false, cond, ◌∷◌, Option, Some, None, IfSome, IsNone, true≢false, refl, ap, ◌∙◌, sym, arith, tests}
+use Rattle.std.proofs.Common.{◌≡◌, ◌↔◌, ℕ, zero, suc, ◌+◌, ◌*◌, ◌^◌, Bool, true, false, cond, Option, Some, None, IfSome, IsNone, true≢false, refl, ap, ◌∙◌, sym, arith, tests}
 use Rattle.std.specs.Prelude.{◌==◌}
 use Rattle.std.proofs.lemmas.Option.{none-some}
-use Rattle.a32_isa.specs.Fields.{◌of◌, width_of, number_of, bit, field, flag}
+use Rattle.a32_isa.specs.Fields.{width_of, number_of, field, flag}
 use Rattle.a32_isa.specs.Allowed.{is_allowed}
 use Rattle.a32_isa.specs.Table.{IsInstruction, op_fields, fields_of, half_load, half_code, half_high, half_low, half_immediate}
 use Rattle.a32_isa.specs.Decoding.{data_of, or_else, multiply_of, half_with_kind, half_class_of, misc_of, register_class_of, wide_of, of_class, candidate_of, with_condition, decode_of}

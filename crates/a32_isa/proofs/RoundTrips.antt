@@ -1,5 +1,5 @@
 -- The table as a correspondence between words and instructions.
-use Rattle.std.proofs.Common.{◌≡◌, ℕ, ◌^◌, ◌<◌, Option, Some, None, IfSome, refl, sym, ap, ◌∙◌}
+use Rattle.std.proofs.Common.{◌≡◌, ℕ, ◌^◌, ◌<◌, Option, Some, None, IfSome, refl, sym, ◌∙◌}
 use Rattle.a32_isa.specs.Table.{IsInstr, IsInstruction, word_of}
 use Rattle.a32_isa.specs.Decoding.{decode_of}
 use Rattle.a32_isa.specs.declared.instr.Instr.{Instr}

@@ -1,22 +1,17 @@
 -- What is decoded is a row's instruction.
-use Rattle.std.proofs.Common.{◌≡◌, ◌≢◌, ℕ, zero, suc, ◌+◌, ◌*◌, ◌/◌, ◌%◌, ◌^◌, ◌<◌, Bool, true, false, cond, ◌∷◌, Option, Some, None, IfSome, refl, ap, ◌∙◌, sym, arith, tests}
+use Rattle.std.proofs.Common.{◌≡◌, ◌≢◌, ℕ, zero, suc, ◌+◌, ◌/◌, ◌%◌, ◌^◌, ◌<◌, Bool, true, false, cond, ◌∷◌, Option, Some, None, IfSome, refl, ap, ◌∙◌, sym, arith, tests}
 use Rattle.std.specs.Prelude.{◌==◌}
 use Rattle.std.proofs.lemmas.Bool.{eqb-true, eqb-false}
 use Rattle.std.proofs.lemmas.Nat.{mod_below}
 use Rattle.std.proofs.Math.Nat.{mod-eq_of_lt}
-use Rattle.a32_isa.specs.Fields.{◌of◌, width_of, number_of, bit, field, flag}
+use Rattle.a32_isa.specs.Fields.{◌of◌, bit, field, flag}
 use Rattle.a32_isa.specs.Allowed.{is_allowed}
 use Rattle.a32_isa.specs.Table.{IsInstruction, op_fields, half_load, half_code}
 use Rattle.a32_isa.specs.Decoding.{data_of, multiply_of, half_with_kind, half_class_of, misc_of, register_class_of, wide_of, of_class, candidate_of, with_condition, decode_of}
 use Rattle.a32_isa.proofs.Fields.{Has, Has-number, Has-fit, flag-bit}
 use Rattle.a32_isa.proofs.Widths.{twenty_eight}
-use Rattle.a32_isa.specs.declared.instr.Instr.{Instr}
 use Rattle.a32_isa.specs.declared.instr.Op.{Op}
-use Rattle.a32_isa.specs.declared.instr.Op.TheVariants.{Data, Mul, Mla, Long, Clz, Movw, Movt, Nop, Mem, Half, Multi, Branch, Bx, Blx, Svc}
-use Rattle.a32_isa.specs.declared.instr.Arg.{Arg}
-use Rattle.a32_isa.specs.declared.instr.Arg.TheVariants.{Imm, ByImm, ByReg}
-use Rattle.a32_isa.specs.declared.instr.MemOff.TheVariants as mem
-use Rattle.a32_isa.specs.declared.instr.HalfOff.TheVariants as half
+use Rattle.a32_isa.specs.declared.instr.Arg.TheVariants.{Imm, ByReg}
 
 -- an operation has the word's fields, where there is one
 abbrev Reads : ℕ → Option Op → Type 0

@@ -1,6 +1,6 @@
 -- What each row of the table asks of its fields, beside their widths. Words that the Arm ARM (Armv7-A and
 -- Armv7-R, DDI 0406C) calls unpredictable have no row, nor have forms that this subset leaves out.
-use Rattle.std.specs.Prelude.{ℕ, Bool, true, false, not, ◌&&◌, ◌||◌, ◌==◌, nat_lt}
+use Rattle.std.specs.Prelude.{ℕ, Bool, true, not, ◌&&◌, ◌||◌, ◌==◌, nat_lt}
 use Rattle.a32_isa.specs.Registers.{differs, is_general, is_comparison, is_move, is_listed}
 use Rattle.a32_isa.specs.declared.instr.Op.{Op}
 use Rattle.a32_isa.specs.declared.instr.Op.TheVariants.{Data, Mul, Mla, Long, Clz, Movw, Movt, Nop, Mem, Half, Multi, Branch, Bx, Blx, Svc}

@@ -1,6 +1,6 @@
 -- The instruction of a word, computed. The table alone says what is right: `decode` ensures that this is the
 -- instruction whose row has the word. Constant words compute, which the layers above use.
-use Rattle.std.specs.Prelude.{ℕ, ◌+◌, ◌*◌, Bool, ◌==◌, Option, Some, None, if◌then◌else◌}
+use Rattle.std.specs.Prelude.{ℕ, ◌+◌, ◌*◌, ◌==◌, Option, Some, None, if◌then◌else◌}
 use Rattle.a32_isa.specs.Fields.{field, flag}
 use Rattle.a32_isa.specs.Allowed.{is_allowed}
 use Rattle.a32_isa.specs.declared.instr.Instr.{Instr}

@@ -1,6 +1,6 @@
 -- The constants that a data operation can hold: a byte rotated right by an even number of bits (Arm ARM,
 -- DDI 0406C, A5.2.4).
-use Rattle.std.specs.Prelude.{ℕ, ◌*◌, ◌^◌, Bool, not, nat_lt}
+use Rattle.std.specs.Prelude.{ℕ, ◌*◌, Bool, not, nat_lt}
 use Rattle.std.specs.Int.{w32, rotate_left, rotate_right}
 use Rattle.std.specs.List.{list_all, range_with_len}
 

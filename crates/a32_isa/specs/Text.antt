@@ -1,6 +1,6 @@
 -- The text of an instruction: its mnemonic, a space and its operands, which are parted by a comma and a space.
 -- The order of the operands is that of the assembler's language (Arm ARM, DDI 0406C, A8.8).
-use Rattle.std.specs.Prelude.{ℕ, ◌+◌, ◌-◌, ◌*◌, ◌^◌, Bool, true, false, not, ◌&&◌, ◌==◌, nat_lt, if◌then◌else◌, List, [], ◌∷◌, ◌++◌, map, filter, codes, decimal}
+use Rattle.std.specs.Prelude.{ℕ, ◌-◌, ◌*◌, ◌^◌, Bool, true, false, not, ◌&&◌, ◌==◌, nat_lt, if◌then◌else◌, List, [], ◌∷◌, ◌++◌, map, filter, codes, decimal}
 use Rattle.std.specs.List.{range_with_len}
 use Rattle.a32_isa.specs.Registers.{is_comparison, is_move, is_listed}
 use Rattle.a32_isa.specs.Names.{register_name, condition_name, data_name, long_name, half_name, shift_name}

@@ -1,7 +1,6 @@
-use Rattle.std.proofs.Common.{◌≡◌, ℕ, true, false, ◌++◌, ◌∙◌, ap, sym, append_assoc, List, arith}
+use Rattle.std.proofs.Common.{◌≡◌, ℕ, ◌++◌, ◌∙◌, ap, sym, append_assoc, List, arith}
 use Rattle.std.proofs.lemmas.Result.{on_ok_weaker}
 use Rattle.std.specs.Prelude.{codes}
-use Rattle.a32_isa.specs.Registers.{is_listed}
 use Rattle.a32_isa.specs.Names.{register_name}
 use Rattle.a32_isa.specs.Text.{parted, list_operand}
 use Rattle.a32_isa.proofs.Parts.{more_put, is_empty, is_empty-more, names_below, names_listed, names_unlisted}
