@@ -4,3 +4,5 @@ pub mod Sound
 pub mod Complete
 pub mod RoundTrips
 pub mod Parts
+pub mod Rotations
+pub mod Immediates

@@ -19,5 +19,5 @@ mod tests;
 pub use decoder::decode;
 pub use encoder::encode;
 pub use instr::{Arg, HalfOff, Instr, MemOff, Op};
-pub use laws::{one_instruction, one_word, round_trips};
+pub use laws::{constants, one_instruction, one_word, round_trips};
 pub use printer::print;
