@@ -49,7 +49,8 @@ is_allowed (Clz d m) = is_general d && is_general m
 is_allowed (Movw d imm16) = is_general d
 is_allowed (Movt d imm16) = is_general d
 is_allowed Nop = true
-is_allowed (Mem load byte p u w n d off) = is_base_allowed p w n d && (is_general d || (load && not byte)) && is_mem_off_allowed off
+is_allowed (Mem load byte p u w n d off) =
+    is_base_allowed p w n d && (is_general d || (load && not byte)) && is_mem_off_allowed off
 is_allowed (Half kind p u w n d off) = nat_lt kind 4 && is_base_allowed p w n d && is_general d && is_half_off_allowed off
 is_allowed (Multi load p u w n list) = is_multi_allowed load w n list
 is_allowed (Branch link imm24) = true

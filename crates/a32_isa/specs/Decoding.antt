@@ -57,8 +57,12 @@ half_class_of w = if flag w 20 then half_with_kind w (field w 5 2) else if field
 unfoldable pub misc_of : ℕ → Option Op
 misc_of w =
     if flag w 20 then None
-    else if field w 21 4 == 11 then (if field w 16 4 == 15 then (if field w 8 4 == 15 then (if field w 5 2 == 0 then Some (Clz (field w 12 4) (field w 0 4)) else None) else None) else None)
-    else if field w 21 4 == 9 then (if field w 8 12 == 0xfff then (if field w 5 2 == 0 then Some (Bx (field w 0 4)) else if field w 5 2 == 1 then Some (Blx (field w 0 4)) else None) else None)
+    else if field w 21 4 == 11 then (
+    if field w 16 4 == 15 then (if field w 8 4 == 15 then (if field w 5 2 == 0 then Some (Clz (field w 12 4) (field w 0 4)) else None) else None) else None)
+    else if field w 21 4 == 9 then (
+    if field w 8 12 == 0xfff then (
+    if field w 5 2 == 0 then Some (Bx (field w 0 4)) else if field w 5 2 == 1 then Some (Blx (field w 0 4)) else None)
+    else None)
     else None
 
 -- bits 27 to 25 are 000

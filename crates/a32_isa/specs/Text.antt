@@ -83,7 +83,8 @@ list_operand list = codes "{" ++ (parted (map register_name (listed_below list 1
 
 -- how far a branch goes from its address plus 8, in bytes: 4 times a signed number of 24 bits
 unfoldable pub branch_operand : ℕ → List ℕ
-branch_operand imm24 = let forward : Bool = nat_lt imm24 (2 ^ 23) in offset forward (4 * (if forward then imm24 else 2 ^ 24 - imm24))
+branch_operand imm24 =
+    let forward : Bool = nat_lt imm24 (2 ^ 23) in offset forward (4 * (if forward then imm24 else 2 ^ 24 - imm24))
 
 abbrev pub operands_of : Op → List (List ℕ)
 operands_of (Data op s n d arg) = map register_name (data_registers op n d) ++ arg_operands arg

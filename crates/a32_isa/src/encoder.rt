@@ -66,7 +66,8 @@ fn half_bits(kind: u8, off: &HalfOff) -> u32
     requires kind { kind < 4 }
     requires high { half_high off.now < 16 }
     requires low { half_low off.now < 16 }
-    ensures value { result ≡ half_high off.now * 2 ^ 8 + 2 ^ 7 + half_code kind * 2 ^ 5 + 2 ^ 4 + half_low off.now }
+    ensures value { result
+        ≡ half_high off.now * 2 ^ 8 + 2 ^ 7 + half_code kind * 2 ^ 5 + 2 ^ 4 + half_low off.now }
     ensures fits { result < 2 ^ 12 }
 {
     let code = if kind == 0 { 1 } else { kind };
@@ -82,7 +83,8 @@ fn multiply_bits(s: bool, hi: u8, lo: u8, s2: u8, m: u8) -> u32
     requires lo { lo < 16 }
     requires s2 { s2 < 16 }
     requires m { m < 16 }
-    ensures value { result ≡ bit s * 2 ^ 20 + hi * 2 ^ 16 + lo * 2 ^ 12 + s2 * 2 ^ 8 + 2 ^ 7 + 2 ^ 4 + m }
+    ensures value { result
+        ≡ bit s * 2 ^ 20 + hi * 2 ^ 16 + lo * 2 ^ 12 + s2 * 2 ^ 8 + 2 ^ 7 + 2 ^ 4 + m }
     ensures fits { result < 2 ^ 21 }
 {
     flag(s, 20) + placed(hi, 16) + placed(lo, 12) + placed(s2, 8) + 0x90 + m as u32
@@ -91,7 +93,9 @@ fn multiply_bits(s: bool, hi: u8, lo: u8, s2: u8, m: u8) -> u32
 /// The flags of an address and its base, with the flag between U and W and the one behind W.
 fn address_bits(at: &Addressing, fourth: bool, load: bool) -> u32
     requires { at.now.n < 16 }
-    ensures value { result ≡ bit at.now.p * 2 ^ 24 + bit at.now.u * 2 ^ 23 + bit fourth * 2 ^ 22 + bit at.now.w * 2 ^ 21 + bit load * 2 ^ 20 + at.now.n * 2 ^ 16 }
+    ensures value { result
+        ≡ bit at.now.p * 2 ^ 24 + bit at.now.u * 2 ^ 23 + bit fourth * 2 ^ 22 + bit at.now.w * 2 ^ 21
+        + bit load * 2 ^ 20 + at.now.n * 2 ^ 16 }
     ensures fits { result + 2 ^ 16 ≤ 2 ^ 25 }
 {
     flag(at.p, 24)
@@ -124,7 +128,8 @@ fn data_word(op: u8, s: bool, n: u8, d: u8, arg: &Arg) -> u32
 
 fn mem_word(load: bool, byte: bool, at: &Addressing, d: u8, off: &MemOff) -> u32
     requires { Fit (op_fields (Mem load byte at.now.p at.now.u at.now.w at.now.n d off.now)) }
-    ensures { result ≡ number_of (op_fields (Mem load byte at.now.p at.now.u at.now.w at.now.n d off.now)) }
+    ensures { result
+        ≡ number_of (op_fields (Mem load byte at.now.p at.now.u at.now.w at.now.n d off.now)) }
 {
     let class = match *off {
         MemOff::Imm(_) => 2,
@@ -136,7 +141,8 @@ fn mem_word(load: bool, byte: bool, at: &Addressing, d: u8, off: &MemOff) -> u32
 fn half_word(kind: u8, at: &Addressing, d: u8, off: &HalfOff) -> u32
     requires fit { Fit (op_fields (Half kind at.now.p at.now.u at.now.w at.now.n d off.now)) }
     requires kind { kind < 4 }
-    ensures { result ≡ number_of (op_fields (Half kind at.now.p at.now.u at.now.w at.now.n d off.now)) }
+    ensures { result
+        ≡ number_of (op_fields (Half kind at.now.p at.now.u at.now.w at.now.n d off.now)) }
 {
     let immediate = match *off {
         HalfOff::Imm(_) => true,

@@ -1,5 +1,4 @@
-//! Laws of the definitions: the instruction table is a correspondence between words and instructions, and a
-//! constant one between its text and its byte and rotation.
+//! Laws of the definitions: the table pairs words and instructions one to one, and what a constant is.
 
 ghost use Rattle.std.specs.Prelude.{◌≡◌, ℕ, ◌*◌, ◌<◌, ◌^◌, ◌↔◌, Some, IfSome, IsTrue};
 ghost use Rattle.std.specs.Int.{w32, rotate_left};
@@ -28,6 +27,8 @@ pub fn round_trips()
 /// A rotation gives a number exactly where a byte rotated so is the number, and that byte is the number
 /// rotated back.
 pub fn constants()
-    ensures gives { (n rot : ℕ) → n < 2 ^ 32 → rot < 16 → IsTrue (gives n rot) ↔ ((imm : ℕ) × (imm < 256) × (constant_of rot imm ≡ n)) }
-    ensures back { (rot imm : ℕ) → rot < 16 → imm < 256 → rotate_left w32 (constant_of rot imm) (2 * rot) ≡ imm }
+    ensures gives { (n rot : ℕ) → n < 2 ^ 32 → rot < 16
+        → IsTrue (gives n rot) ↔ ((imm : ℕ) × (imm < 256) × (constant_of rot imm ≡ n)) }
+    ensures back { (rot imm : ℕ) → rot < 16 → imm < 256
+        → rotate_left w32 (constant_of rot imm) (2 * rot) ≡ imm }
 {}

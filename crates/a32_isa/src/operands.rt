@@ -76,7 +76,8 @@ fn put_arg(out: &mut Bytes, arg: &Arg) -> Result<(), Memory>
 fn put_data_registers(out: &mut Bytes, op: u8, n: u8, d: u8) -> Result<(), Memory>
     requires n { n < 16 }
     requires d { d < 16 }
-    ensures { OnOk result (out.new ≡ out.old ++ parted (map register_name (data_registers op n d))) }
+    ensures { OnOk result (out.new
+        ≡ out.old ++ parted (map register_name (data_registers op n d))) }
 {
     if is_comparison(op) {
         return put_register(out, n);
@@ -92,7 +93,8 @@ pub fn put_data(out: &mut Bytes, op: u8, n: u8, d: u8, arg: &Arg) -> Result<(), 
     requires n { n < 16 }
     requires d { d < 16 }
     requires arg { Fit (arg_fields arg.now) }
-    ensures { OnOk result (out.new ≡ out.old ++ parted (map register_name (data_registers op n d) ++ arg_operands arg.now)) }
+    ensures { OnOk result (out.new
+        ≡ out.old ++ parted (map register_name (data_registers op n d) ++ arg_operands arg.now)) }
 {
     put_data_registers(out, op, n, d)?;
     put_arg(out, arg)
@@ -101,7 +103,8 @@ pub fn put_data(out: &mut Bytes, op: u8, n: u8, d: u8, arg: &Arg) -> Result<(), 
 /// A register and an immediate.
 pub fn put_wide(out: &mut Bytes, d: u8, imm16: u16) -> Result<(), Memory>
     requires { d < 16 }
-    ensures { OnOk result (out.new ≡ out.old ++ parted (register_name d ∷ immediate imm16 ∷ [])) }
+    ensures { OnOk result (out.new
+        ≡ out.old ++ parted (register_name d ∷ immediate imm16 ∷ [])) }
 {
     put_register(out, d)?;
     put_text(out, ", ")?;
@@ -128,7 +131,8 @@ pub fn put_mem(out: &mut Bytes, d: u8, at: &Addressing, off: &MemOff) -> Result<
     requires d { d < 16 }
     requires n { at.now.n < 16 }
     requires off { Fit (mem_off_fields off.now) }
-    ensures { OnOk result (out.new ≡ out.old ++ parted (register_name d ∷ address_operands at.now.p at.now.w at.now.n (mem_off_operands at.now.u off.now))) }
+    ensures { OnOk result (out.new ≡ out.old ++ parted (register_name d
+        ∷ address_operands at.now.p at.now.w at.now.n (mem_off_operands at.now.u off.now))) }
 {
     put_register(out, d)?;
     put_text(out, ", [")?;
@@ -163,7 +167,8 @@ pub fn put_half(out: &mut Bytes, d: u8, at: &Addressing, off: &HalfOff) -> Resul
     requires n { at.now.n < 16 }
     requires high { half_high off.now < 16 }
     requires low { half_low off.now < 16 }
-    ensures { OnOk result (out.new ≡ out.old ++ parted (register_name d ∷ address_operands at.now.p at.now.w at.now.n (half_off_operands at.now.u off.now))) }
+    ensures { OnOk result (out.new ≡ out.old ++ parted (register_name d
+        ∷ address_operands at.now.p at.now.w at.now.n (half_off_operands at.now.u off.now))) }
 {
     put_mem(out, d, at, &word_off(off))
 }
@@ -183,7 +188,8 @@ pub fn put_branch(out: &mut Bytes, imm24: u32) -> Result<(), Memory>
 
 /// A text behind a comma, but for the first.
 fn put_item(out: &mut Bytes, first: bool, text: &str) -> Result<(), Memory>
-    ensures { OnOk result (out.new ≡ out.old ++ (where_set (not first) (codes ", ") ++ text.now)) }
+    ensures { OnOk result (out.new
+        ≡ out.old ++ (where_set (not first) (codes ", ") ++ text.now)) }
 {
     put_where_set(out, !first, ", ")?;
     put_text(out, text)
@@ -219,7 +225,8 @@ fn put_list(out: &mut Bytes, list: u16) -> Result<(), Memory>
 /// The base of a multiple load or store, and its list.
 pub fn put_multi(out: &mut Bytes, w: bool, n: u8, list: u16) -> Result<(), Memory>
     requires { n < 16 }
-    ensures { OnOk result (out.new ≡ out.old ++ parted ((register_name n ++ where_set w (codes "!")) ∷ list_operand list ∷ [])) }
+    ensures { OnOk result (out.new ≡ out.old ++ parted ((register_name n ++ where_set w (codes "!"))
+        ∷ list_operand list ∷ [])) }
 {
     put_register(out, n)?;
     put_where_set(out, w, "!")?;

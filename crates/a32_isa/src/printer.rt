@@ -104,7 +104,7 @@ fn put_operands(out: &mut Bytes, op: &Op) -> Result<(), Memory>
     }
 }
 
-/// The text of an instruction that the table has, as the assembler reads it.
+/// The text of an instruction that the table has, as the assembler reads it. Refuses only for want of memory.
 #[tactic(auto, unfolding(crate::specs::Text::text_of))]
 pub fn print(alloc: Global, i: &Instr) -> Result<Bytes, Memory>
     requires { IsInstr i.now }
