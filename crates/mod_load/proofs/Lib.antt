@@ -1,1 +1,6 @@
+pub mod Filled
+pub mod Itemized
+pub mod Parts
 pub mod Told
+pub mod Writing
+pub mod Zips

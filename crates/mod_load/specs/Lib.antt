@@ -1,4 +1,6 @@
 pub mod Accepts
+pub mod Bounds
+pub mod Causes
 pub mod Fit
 pub mod Image
 pub mod Items
