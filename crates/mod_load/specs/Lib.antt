@@ -4,6 +4,7 @@ pub mod Causes
 pub mod Fit
 pub mod Image
 pub mod Items
+pub mod Kept
 pub mod Loaded
 pub mod Loading
 pub mod Plan

@@ -11,6 +11,7 @@ mod loader;
 mod module;
 mod placing;
 mod plan;
+mod slots;
 mod words;
 
 pub use error::{LoadErr, LoadRefusal};
