@@ -1,10 +1,18 @@
 //! Loading: the plan of a load, with every refusal and all memory that it takes, and its commit.
 #![tactic(auto)]
 
+mod address;
 mod error;
+mod fetch;
+mod file;
+mod image;
+mod items;
 mod loader;
 mod module;
+mod placing;
 mod plan;
+mod slots;
+mod words;
 
 pub use error::{LoadErr, LoadRefusal};
 pub use loader::Loader;
