@@ -1,5 +1,7 @@
 pub mod Changing
 pub mod Filed
 pub mod Growing
+pub mod Hosted
 pub mod Numerals
 pub mod Putting
+pub mod Translated

@@ -2,14 +2,18 @@
 #![tactic(auto)]
 
 mod calls;
+mod host;
 mod map;
 mod name;
 mod seq;
 mod sink;
 mod store;
+#[cfg(test)]
+mod tests;
 mod text;
 mod words;
 
+pub use host::{DirStore, StdSink};
 pub use map::MapEntry;
 pub use name::{Name, NameErr};
 pub use seq::{Bytes, Memory, Names, Numbers, Seq, Words};

@@ -11,6 +11,7 @@ use Rattle.mod_load.specs.declared.plan.MemPlan.{MemPlan}
 use Rattle.mod_load.specs.declared.module.TheConstants.{MAX_MODULES}
 use Rattle.mod_load.specs.declared.module.Module.{Module}
 use Rattle.mod_load.specs.declared.module.Added.{Added}
+use Rattle.mod_load.specs.declared.module.TheConstants.{MAX_MODULES}
 use Rattle.mod_load.specs.Plan.{low_of, high_of}
 use Rattle.mod_load.specs.Image.{IsImage}
 

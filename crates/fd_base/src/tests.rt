@@ -1,0 +1,213 @@
+//! Values from outside: each public call once, at its edges.
+use super::*;
+use crate::host::read_all;
+use std::alloc::Global;
+use std::io;
+use std::io::{ErrorKind, Read};
+use std::test::Fail;
+
+fn named(alloc: Global, bytes: &[u8]) -> Result<Name, Fail> {
+    Ok(Name::new(alloc, bytes)?)
+}
+
+/// Whether a fetch gave these bytes.
+fn gives(answer: &Result<Option<Bytes>, FetchErr>, bytes: &[u8]) -> bool {
+    match answer {
+        Ok(Some(fetched)) => fetched.as_slice() == bytes,
+        _ => false,
+    }
+}
+
+#[test]
+fn words_are_little_endian(rt: HostRuntime) {
+    let mut bytes = [0x78, 0x56, 0x34, 0x12, 0xff];
+    let words = [
+        (0, Some(0x1234_5678)),
+        (1, Some(0xff12_3456)),
+        (2, None),
+        (5, None),
+        (0xffff_ffff, None),
+    ];
+    for (at, word) in words {
+        assert_eq!(rt; word_at(&bytes, at), word, "word at {at}");
+    }
+    for (at, half) in [
+        (0, Some(0x5678)),
+        (3, Some(0xff12)),
+        (4, None),
+        (0xffff_ffff, None),
+    ] {
+        assert_eq!(rt; half_at(&bytes, at), half, "half at {at}");
+    }
+    put_word(&mut bytes, 1, 0xa1b2_c3d4);
+    assert_eq!(rt; bytes, [0x78, 0xd4, 0xc3, 0xb2, 0xa1]);
+}
+
+#[test]
+fn numbers_are_read(rt: HostRuntime) {
+    let fields: [(&str, Option<u32>); 24] = [
+        ("0", Some(0)),
+        ("4294967295", Some(4_294_967_295)),
+        ("4294967296", None),
+        ("9999999999", None),
+        ("0000000012", Some(12)),
+        ("00000000012", None),
+        ("0x0", Some(0)),
+        ("0xFFFFFFFF", Some(0xffff_ffff)),
+        ("0x00aBcDeF", Some(0x00ab_cdef)),
+        ("0xffffffff0", None),
+        ("0x000000000", None),
+        ("0x", None),
+        ("0X1", None),
+        ("0xg", None),
+        ("0x+1", None),
+        ("", None),
+        ("+1", None),
+        ("-1", None),
+        (" 1", None),
+        ("1 ", None),
+        ("12a", None),
+        ("a", None),
+        ("1_0", None),
+        ("x1", None),
+    ];
+    for (field, value) in fields {
+        assert_eq!(rt; number(field.as_bytes()), value, "{field}");
+    }
+}
+
+#[test]
+fn texts_are_put(rt: HostRuntime) -> Result<(), Fail> {
+    let alloc = rt.alloc();
+    let mut out = Bytes::new(alloc);
+    for n in [0, 7, 10, 4_294_967_295] {
+        put_dec(&mut out, n)?;
+        out.push(b' ')?;
+    }
+    for n in [0, 0xdead_beef, 0x0012_0a00] {
+        put_hex8(&mut out, n)?;
+        out.push(b' ')?;
+    }
+    put_shown(&mut out, &named(alloc, b"lib.so\x20\x21%\x7e\x7f\xff\x01")?)?;
+    let wanted = b"0 7 10 4294967295 0x00000000 0xdeadbeef 0x00120a00 lib.so%20!%25~%7f%ff%01";
+    assert_eq!(rt; out.as_slice(), wanted.as_slice());
+    Ok(())
+}
+
+#[test]
+fn names_are_refused(rt: HostRuntime) -> Result<(), Fail> {
+    let alloc = rt.alloc();
+    let mut long = [b'a'; 257];
+    assert!(rt; matches!(Name::new(alloc, b""), Err(NameErr::Empty)));
+    assert!(rt; matches!(Name::new(alloc, b"a\0b\0"), Err(NameErr::Zero(1))));
+    assert!(rt; matches!(Name::new(alloc, &long[..256]), Err(NameErr::TooLong)));
+    let name = named(alloc, &long[..255])?.copy(alloc)?;
+    assert_eq!(rt; name.as_slice(), &long[..255]);
+    long[0] = 0;
+    assert!(rt; matches!(Name::new(alloc, &long[..256]), Err(NameErr::TooLong)));
+    assert!(rt; matches!(Name::new(alloc, &long[..255]), Err(NameErr::Zero(0))));
+    Ok(())
+}
+
+#[test]
+fn stores_fail_where_asked(rt: HostRuntime) -> Result<(), Fail> {
+    let alloc = rt.alloc();
+    let mut store = MemStore::new(alloc);
+    let (a, b) = (named(alloc, b"a")?, named(alloc, b"b")?);
+    store.add(&a, b"old")?;
+    store.add(&a, b"one")?;
+    for call in [2, 4, 0] {
+        store.fail_at(call)?;
+    }
+    assert!(rt; gives(&store.fetch(alloc, &a), b"one"));
+    assert!(rt; matches!(store.fetch(alloc, &a), Err(FetchErr::Failed)));
+    assert!(rt; matches!(store.put(&b, b"two"), Ok(())));
+    assert!(rt; matches!(store.put(&b, b"new"), Err(PutErr::Failed)));
+    assert!(rt; gives(&store.fetch(alloc, &b), b"two"));
+    assert!(rt; matches!(store.fetch(alloc, &named(alloc, b"c")?), Ok(None)));
+    let long = vec![in alloc; 0u8; 4_194_305]?;
+    store.add(&b, &long)?;
+    assert!(rt; matches!(store.fetch(alloc, &b), Err(FetchErr::TooLong(4_194_305))));
+    store.put(&b, &long[1..])?;
+    assert!(rt; gives(&store.fetch(alloc, &b), &long[1..]));
+    assert!(rt; gives(&store.fetch(alloc, &a), b"one"));
+    Ok(())
+}
+
+#[test]
+fn sinks_fail_where_asked(rt: HostRuntime) -> Result<(), Fail> {
+    let mut sink = MemSink::new(rt.alloc());
+    sink.fail_at(2)?;
+    assert!(rt; matches!(sink.put(b""), Ok(())));
+    assert!(rt; matches!(sink.put(b"one"), Ok(())));
+    assert!(rt; matches!(sink.put(b""), Ok(())));
+    assert!(rt; matches!(sink.put(b"two"), Err(SinkErr::Failed)));
+    assert!(rt; matches!(sink.put(b" three"), Ok(())));
+    assert_eq!(rt; sink.bytes(), b"one three".as_slice());
+    Ok(())
+}
+
+/// Reads that each give 1,000 bytes until the last one, which is an end or a fault.
+#[derive(Drop)]
+struct Thousands {
+    left: u32,
+    faulty: bool,
+}
+
+impl Read for Thousands {
+    fn read(&mut self, buf: &mut [u8]) -> io::Result<usize> {
+        if self.left > 0 {
+            self.left -= 1;
+            return Ok(buf.len().min(1000));
+        }
+        if self.faulty {
+            return Err(io::Error::from(ErrorKind::Other));
+        }
+        Ok(0)
+    }
+}
+
+#[test]
+fn host_files_are_read_whole(rt: HostRuntime) -> Result<(), Fail> {
+    let alloc = rt.alloc();
+    let mut faults = 0;
+    let mut file = Thousands {
+        left: 3,
+        faulty: false,
+    };
+    assert_eq!(rt; read_all(alloc, &mut file, &mut faults)?.len(), 3000);
+    file = Thousands {
+        left: 3,
+        faulty: true,
+    };
+    assert!(rt;
+        matches!(
+            read_all(alloc, &mut file, &mut faults),
+            Err(FetchErr::Failed)
+        )
+    );
+    assert_eq!(rt; faults, 1);
+    file.left = u32::MAX;
+    let long = read_all(alloc, &mut file, &mut faults);
+    assert!(rt; matches!(long, Err(FetchErr::TooLong(4_194_305))));
+    let mut store = DirStore::new(&rt);
+    assert!(rt;
+        matches!(
+            store.fetch(alloc, &named(alloc, b"no such file")?),
+            Ok(None)
+        )
+    );
+    let not_text = named(alloc, b"\xff")?;
+    assert!(rt; matches!(store.fetch(alloc, &not_text), Ok(None)));
+    assert!(rt; matches!(store.put(&not_text, b""), Err(PutErr::Failed)));
+    let folder = named(alloc, b".")?;
+    assert!(rt; matches!(store.fetch(alloc, &folder), Err(FetchErr::Failed)));
+    assert!(rt; matches!(store.put(&folder, b""), Err(PutErr::Failed)));
+    assert!(rt;
+        matches!(
+            StdSink::new(rt.stdout()).put(b"to standard output\n"),
+            Ok(())
+        )
+    );
+    Ok(())
+}

@@ -1,0 +1,113 @@
+-- How a command ends, and what it leaves outside.
+use Rattle.std.specs.Prelude.{option_map, ◌≡◌, ℕ, ◌⊎◌, List, Option, Some, None, Result, Ok, Err, IfSome, Bool, true, false}
+use Rattle.fd_base.specs.Fetched.{Files, ChangesOnly, with_file}
+use Rattle.fd_base.specs.Faults.{Rose}
+use Rattle.fd_base.specs.Grown.{Grew, GrewByPart}
+use Rattle.fdpic_cmd.specs.declared.status.Status.{Status}
+use Rattle.fdpic_cmd.specs.declared.status.Status.TheVariants.{Done, Memory, Words, StoreFault, SinkFault, Refused}
+use Rattle.fdpic_cmd.specs.declared.status.Refusal.{Refusal}
+use Rattle.fdpic_cmd.specs.declared.status.Failure.{Failure}
+use Rattle.fdpic_cmd.specs.declared.status.Failure.TheVariants.{Refused as Refuses, StoreFault as Fails, Memory as Lacks}
+use Rattle.fdpic_cmd.specs.Outcome.{Outcome, Output, writes, refuses}
+
+-- the outside of a command: files and bytes where they are told, and the counts of faults
+pub record Outside : Type 0 where
+  pub files : Option Files
+  pub store_faults : ℕ
+  pub out : Option (List ℕ)
+  pub out_faults : ℕ
+
+abbrev pub outside : Option Files → ℕ → Option (List ℕ) → ℕ → Outside
+outside files store_faults out out_faults = record { files = files; store_faults = store_faults; out = out; out_faults = out_faults }
+
+-- the output is put, where there is one
+abbrev pub IsPut : Option Files → Option Files → Option Output → Type 0
+IsPut old new None = new ≡ old
+IsPut old new (Some f) = new ≡ option_map (with_file f.name f.bytes) old
+
+-- what out gained and what was put are those of an outcome with this status, which the command means
+pub record CameTo (means : Files → Outcome → Type 0) (old new : Outside) (status : Status) (told : Files) : Type 0 where
+  pub outcome : Outcome
+  pub meant : means told outcome
+  pub status_is : outcome.status ≡ status
+  pub text : Grew old.out new.out outcome.text
+  pub put : IsPut old.files new.files outcome.output
+
+-- what out gained is part of the text of an outcome that the command means
+pub record IsPartly (means : Files → Outcome → Type 0) (old new : Outside) (told : Files) : Type 0 where
+  pub outcome : Outcome
+  pub meant : means told outcome
+  pub text : GrewByPart old.out new.out outcome.text
+
+-- out was cut off: it gained nothing, or a part
+abbrev pub IsCutOff : (Files → Outcome → Type 0) → Outside → Outside → Type 0
+IsCutOff means old new = (new.out ≡ old.out) ⊎ IfSome old.files (IsPartly means old new)
+
+-- before all is done outside, a command that writes at once has written nothing
+abbrev pub IsCutOffUnless : Bool → (Files → Outcome → Type 0) → Outside → Outside → Type 0
+IsCutOffUnless true means old new = new.out ≡ old.out
+IsCutOffUnless false means old new = IsCutOff means old new
+
+-- the kinds of a status: the command's own, a refusal, or what the outside makes of it
+pub data Kind : Type 0 where
+  own : Kind
+  refusal : Refusal → Kind
+  lacks : Kind
+  unlisted : Kind
+  store_failed : Kind
+  sink_failed : Kind
+
+abbrev pub kind_of : Status → Kind
+kind_of Done = own
+kind_of (Refused r) = refusal r
+kind_of Memory = lacks
+kind_of Words = unlisted
+kind_of StoreFault = store_failed
+kind_of SinkFault = sink_failed
+
+abbrev pub EndsAs : Kind → Bool → (Files → Outcome → Type 0) → Outside → Outside → Status → Type 0
+EndsAs own at_once means old new status = IfSome old.files (CameTo means old new status)
+EndsAs (refusal r) at_once means old new status = (new.out ≡ old.out) × (new.files ≡ old.files) × IfSome old.files (λ told. means told (refuses r))
+EndsAs lacks at_once means old new status = IsCutOff means old new
+EndsAs unlisted at_once means old new status = ⊥
+EndsAs store_failed at_once means old new status = IsCutOffUnless at_once means old new × Rose old.store_faults new.store_faults
+EndsAs sink_failed at_once means old new status = IsCutOff means old new × Rose old.out_faults new.out_faults
+
+-- what a command's end says
+abbrev pub Ends : Bool → (Files → Outcome → Type 0) → Outside → Outside → Status → Type 0
+Ends at_once means old new status = EndsAs (kind_of status) at_once means old new status
+
+-- no file but the target has changed
+abbrev pub KeepsOthers : Option (List ℕ) → Option Files → Option Files → Type 0
+KeepsOthers None old new = new ≡ old
+KeepsOthers (Some name) old new = ChangesOnly name old new
+
+-- the answer of the part of a command that makes its text
+abbrev pub Gives : (Files → Outcome → Type 0) → Option Files → ℕ → ℕ → Result (List ℕ) Failure → Type 0
+Gives means files old new (Ok text) = IfSome files (λ told. means told (writes text))
+Gives means files old new (Err (Refuses r)) = IfSome files (λ told. means told (refuses r))
+Gives means files old new (Err Fails) = Rose old new
+Gives means files old new (Err Lacks) = Unit {0}
+
+-- the status of a failure
+abbrev pub failed : Failure → Status
+failed (Refuses r) = Refused r
+failed Fails = StoreFault
+failed Lacks = Memory
+
+abbrev pub WritesAs : Kind → List ℕ → Option (List ℕ) → Option (List ℕ) → ℕ → ℕ → Status → Type 0
+WritesAs own text out later old new status = (Done ≡ status) × Grew out later text
+WritesAs (refusal r) text out later old new status = ⊥
+WritesAs lacks text out later old new status = later ≡ out
+WritesAs unlisted text out later old new status = ⊥
+WritesAs store_failed text out later old new status = ⊥
+WritesAs sink_failed text out later old new status = GrewByPart out later text × Rose old new
+
+-- what putting a text on out answers
+abbrev pub Writes : List ℕ → Option (List ℕ) → Option (List ℕ) → ℕ → ℕ → Status → Type 0
+Writes text out later old new status = WritesAs (kind_of status) text out later old new status
+
+-- what putting a text that may be refused answers
+abbrev pub Says : Result (List ℕ) Failure → Option (List ℕ) → Option (List ℕ) → ℕ → ℕ → Status → Type 0
+Says (Ok text) out later old new status = Writes text out later old new status
+Says (Err e) out later old new status = (status ≡ failed e) × (later ≡ out)

@@ -1,0 +1,27 @@
+-- The listed forms of words.
+use Rattle.std.specs.Prelude.{ℕ, List, [], ◌∷◌, Option, Some, None, is_none, if◌then◌else◌, codes}
+use Rattle.std.specs.Str.{bytes_eq}
+use Rattle.fd_base.specs.Name.{name_refusal_of}
+use Rattle.fd_base.specs.Texts.{number_of}
+use Rattle.fdpic_cmd.specs.declared.command.Command.{Command}
+use Rattle.fdpic_cmd.specs.declared.command.Command.TheVariants.{Bind}
+
+-- a word as the name of a file, where it is one
+unfoldable pub name_of : List ℕ → Option (List ℕ)
+name_of word = if is_none (name_refusal_of word) then Some word else None
+
+abbrev pub bind_with : Option (List ℕ) → Option ℕ → Option ℕ → Option Command
+bind_with (Some file) (Some text) (Some data') = Some (Bind file text data')
+bind_with (Some file) (Some text) None = None
+bind_with (Some file) None data' = None
+bind_with None text data' = None
+
+-- bind F TEXT DATA
+abbrev pub bind_of : List (List ℕ) → Option Command
+bind_of (file ∷ text ∷ data' ∷ []) = bind_with (name_of file) (number_of text) (number_of data')
+bind_of _ = None
+
+-- The command of the words, by the first of them. None where they have no listed form.
+abbrev pub command_of : List (List ℕ) → Option Command
+command_of [] = None
+command_of (verb ∷ rest) = if bytes_eq verb (codes "bind") then bind_of rest else None

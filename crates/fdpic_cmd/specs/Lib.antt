@@ -1,0 +1,9 @@
+pub mod Forms
+pub mod Outcome
+pub mod Meaning
+pub mod Bind
+pub mod Binding
+pub mod Ended
+pub mod Answers
+pub mod Lines
+pub mod Exits

@@ -1,0 +1,44 @@
+-- The line of a status on err.
+use Rattle.std.specs.Prelude.{ℕ, List, [], ◌∷◌, ◌++◌, codes, decimal}
+use Rattle.fd_base.specs.Texts.{shown}
+use Rattle.fdpic_cmd.specs.declared.status.Status.{Status}
+use Rattle.fdpic_cmd.specs.declared.status.Status.TheVariants.{Done, Memory, Words, StoreFault, SinkFault, Refused}
+use Rattle.fdpic_cmd.specs.declared.status.Refusal.{Refusal}
+use Rattle.fdpic_cmd.specs.declared.status.Refusal.TheVariants.{NoFile as NoSuchFile, TooLong as FileTooLong, Load}
+use Rattle.mod_load.specs.declared.error.LoadRefusal.{LoadRefusal}
+use Rattle.mod_load.specs.declared.error.LoadRefusal.TheVariants.{NotBuilt, NoFile, TooLong, TooManyModules, NoRoom}
+
+-- what is said of a refused load: the word of its kind, and its fields in order
+unfoldable pub load_text : LoadRefusal → List ℕ
+load_text (NotBuilt name) = codes "NotBuilt " ++ shown name
+load_text (NoFile name) = codes "NoFile " ++ shown name
+load_text (TooLong name) = codes "TooLong " ++ shown name
+load_text TooManyModules = codes "TooManyModules"
+load_text (NoRoom item) = codes "NoRoom " ++ decimal item
+
+-- what is said of a refusal
+unfoldable pub refusal_text : Refusal → List ℕ
+refusal_text (NoSuchFile name) = codes "no file " ++ shown name
+refusal_text (FileTooLong name) = codes "too long " ++ shown name
+refusal_text (Load r) = codes "load " ++ load_text r
+
+-- what is said of a status
+unfoldable pub status_text : Status → List ℕ
+status_text Done = []
+status_text Memory = codes "out of memory"
+status_text Words = codes "words"
+status_text StoreFault = codes "store fault"
+status_text SinkFault = codes "sink fault"
+status_text (Refused r) = refusal_text r
+
+abbrev pub line : List ℕ → List ℕ
+line text = codes "fdpic: " ++ text ++ 10 ∷ []
+
+-- the line of a status; none for Done
+abbrev pub line_of : Status → List ℕ
+line_of Done = []
+line_of Memory = line (status_text Memory)
+line_of Words = line (status_text Words)
+line_of StoreFault = line (status_text StoreFault)
+line_of SinkFault = line (status_text SinkFault)
+line_of (Refused r) = line (status_text (Refused r))

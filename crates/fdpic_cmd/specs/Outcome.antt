@@ -1,0 +1,24 @@
+-- What a command comes to where nothing outside fails.
+use Rattle.std.specs.Prelude.{◌≡◌, ℕ, List, [], Option, Some, None}
+use Rattle.fdpic_cmd.specs.declared.status.Status.{Status}
+use Rattle.fdpic_cmd.specs.declared.status.Status.TheVariants.{Done, Refused}
+use Rattle.fdpic_cmd.specs.declared.status.Refusal.{Refusal}
+
+-- a file that is put
+pub record Output : Type 0 where
+  pub name : List ℕ
+  pub bytes : List ℕ
+
+-- the status, the text on out, and the file that is put
+pub record Outcome : Type 0 where
+  pub status : Status
+  pub text : List ℕ
+  pub output : Option Output
+
+-- the command is done, and its text is written
+abbrev pub writes : List ℕ → Outcome
+writes text = record { status = Done; text = text; output = None }
+
+-- the command is refused, and nothing is written
+abbrev pub refuses : Refusal → Outcome
+refuses r = record { status = Refused r; text = []; output = None }

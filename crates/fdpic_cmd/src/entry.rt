@@ -1,0 +1,185 @@
+//! The program's one entry.
+
+ghost use Rattle.std.specs.Prelude.{◌≡◌, ℕ, ◌≤◌, ◌⊎◌, Option, Some, None, IfSome, IsSome, IsSomeAnd};
+ghost use Rattle.fd_base.specs.Fetched.{Files};
+ghost use Rattle.fd_base.specs.Faults.{Rose};
+ghost use Rattle.fd_base.specs.Grown.{Grew, GrewByPart};
+ghost use Rattle.fdpic_cmd.specs.Ended.{kind_of, own, outside, Ends, Says, Writes, KeepsOthers, CameTo};
+ghost use Rattle.fdpic_cmd.specs.Meaning.{Means, target, is_at_once};
+ghost use Rattle.fdpic_cmd.specs.Forms.{command_of};
+ghost use Rattle.fdpic_cmd.specs.Answers.{Answers, KeepsFiles, IsStatus, Reports, WordsMean, Yields, StaysUnless, at_once, IsEnded};
+ghost use Rattle.fdpic_cmd.specs.Ended as ended;
+ghost use Rattle.fdpic_cmd.specs.declared.status.Refusal.{Refusal};
+ghost use Rattle.fdpic_cmd.specs.Outcome.{Outcome, refuses};
+
+use crate::bind::bind;
+use crate::command::{Command, command_of};
+use crate::line::line;
+use crate::status::{Failure, Status};
+use fd_base::{Bytes, Sink, SinkErr, Store};
+use std::alloc::Global;
+
+/// Puts a text on out by one put, and none where there is nothing.
+fn write<O: Sink>(out: &mut O, text: &[u8]) -> Status
+    ensures answer { Writes text.now (O.bytes out.old) (O.bytes out.new) (O.faults out.old) (O.faults out.new) result }
+    ensures count { O.faults out.old ≤ O.faults out.new }
+{
+    match out.put(text) {
+        Ok(()) => Status::Done,
+        Err(SinkErr::Failed) => Status::SinkFault,
+        Err(SinkErr::Memory) => Status::Memory,
+    }
+}
+
+/// The status of a failure.
+pub fn failed(failure: Failure) -> Status
+    ensures { result ≡ ended.failed failure }
+{
+    match failure {
+        Failure::Refused(r) => Status::Refused(r),
+        Failure::StoreFault => Status::StoreFault,
+        Failure::Memory => Status::Memory,
+    }
+}
+
+/// Puts a text, or says why there is none.
+fn say<O: Sink>(out: &mut O, text: Result<Bytes, Failure>) -> Status
+    ensures answer { Says text (O.bytes out.old) (O.bytes out.new) (O.faults out.old) (O.faults out.new) result }
+    ensures count { O.faults out.old ≤ O.faults out.new }
+{
+    match text {
+        Ok(text) => write(out, text.as_slice()),
+        Err(e) => failed(e),
+    }
+}
+
+/// Does a command, and writes its text or puts its file.
+#[tactic(auto, using(crate::proofs::Said::said))]
+fn perform<S: Store, O: Sink>(
+    alloc: Global,
+    command: &Command,
+    store: &mut S,
+    out: &mut O,
+) -> Status
+    ensures ends { Ends (is_at_once command.now) (Means command.now)
+        (outside (S.files store.old) (S.faults store.old) (O.bytes out.old) (O.faults out.old))
+        (outside (S.files store.new) (S.faults store.new) (O.bytes out.new) (O.faults out.new)) result }
+    ensures files { KeepsOthers (target command.now) (S.files store.old) (S.files store.new) }
+    ensures store_count { S.faults store.old ≤ S.faults store.new }
+    ensures out_count { O.faults out.old ≤ O.faults out.new }
+{
+    match command {
+        Command::Bind { file, text, data } => {
+            let text = bind(alloc, store, file, *text, *data);
+            say(out, text)
+        }
+    }
+}
+
+/// Does what the words say.
+#[tactic(auto, using(crate::proofs::Answered::nothing_done, crate::proofs::Answered::nothing_kept))]
+fn answer<S: Store, O: Sink>(alloc: Global, words: &[Bytes], store: &mut S, out: &mut O) -> Status
+    ensures answer { Answers (command_of words.now)
+        (outside (S.files store.old) (S.faults store.old) (O.bytes out.old) (O.faults out.old))
+        (outside (S.files store.new) (S.faults store.new) (O.bytes out.new) (O.faults out.new)) result }
+    ensures untouched { command_of words.now ≡ None → (store.new ≡ store.old) × (out.new ≡ out.old) }
+    ensures files { KeepsFiles (command_of words.now) (S.files store.old) (S.files store.new) }
+    ensures store_count { S.faults store.old ≤ S.faults store.new }
+    ensures out_count { O.faults out.old ≤ O.faults out.new }
+{
+    match command_of(alloc, words) {
+        Err(_) => Status::Memory,
+        Ok(None) => Status::Words,
+        Ok(Some(command)) => perform(alloc, &command, store, out),
+    }
+}
+
+/// Puts the line of a status on err by one put. Want of memory for it takes the status's place.
+#[tactic(auto, using(crate::proofs::Answered::line_is))]
+fn report<E: Sink>(alloc: Global, status: Status, err: &mut E) -> Status
+    ensures line { Reports (E.bytes err.old) (E.bytes err.new) (E.faults err.old) (E.faults err.new) result }
+    ensures status { IsStatus result status }
+    ensures count { E.faults err.old ≤ E.faults err.new }
+{
+    if let Status::Done = status {
+        return Status::Done;
+    }
+    match line(alloc, &status) {
+        Err(_) => Status::Memory,
+        Ok(text) => match err.put(text.as_slice()) {
+            Ok(()) => status,
+            Err(SinkErr::Failed) => status,
+            Err(SinkErr::Memory) => Status::Memory,
+        },
+    }
+}
+
+/// Does what the words say, and puts the line of the status on err.
+#[tactic(auto, using(crate::proofs::Answered::answered))]
+fn entry<S: Store, O: Sink, E: Sink>(
+    alloc: Global,
+    words: &[Bytes],
+    store: &mut S,
+    out: &mut O,
+    err: &mut E,
+) -> Status
+    ensures answer { Answers (command_of words.now)
+        (outside (S.files store.old) (S.faults store.old) (O.bytes out.old) (O.faults out.old))
+        (outside (S.files store.new) (S.faults store.new) (O.bytes out.new) (O.faults out.new)) result }
+    ensures untouched { command_of words.now ≡ None → (store.new ≡ store.old) × (out.new ≡ out.old) }
+    ensures files { KeepsFiles (command_of words.now) (S.files store.old) (S.files store.new) }
+    ensures line { Reports (E.bytes err.old) (E.bytes err.new) (E.faults err.old) (E.faults err.new) result }
+    ensures store_count { S.faults store.old ≤ S.faults store.new }
+    ensures out_count { O.faults out.old ≤ O.faults out.new }
+    ensures err_count { E.faults err.old ≤ E.faults err.new }
+{
+    let status = answer(alloc, words, store, out);
+    report(alloc, status, err)
+}
+
+/// The program: does what the words say, and tells how it ended. Nothing is required.
+#[tactic(auto, using(crate::proofs::Claims::store_fault, crate::proofs::Claims::sink_fault, crate::proofs::Claims::words, crate::proofs::Claims::no_form, crate::proofs::Claims::refused, crate::proofs::Claims::silent, crate::proofs::Claims::part, crate::proofs::Claims::exact, crate::proofs::Claims::complete))]
+pub fn top<S: Store, O: Sink, E: Sink>(
+    alloc: Global,
+    words: &[Bytes],
+    store: &mut S,
+    out: &mut O,
+    err: &mut E,
+) -> Status
+    // The answer Words comes exactly where the words have no listed form. Then neither store nor out is called.
+    ensures words { result ≡ Status.Words → command_of words.now ≡ None }
+    ensures no_form { command_of words.now ≡ None → IsStatus result Status.Words }
+    ensures untouched { command_of words.now ≡ None → (store.new ≡ store.old) × (out.new ≡ out.old) }
+    // A fault comes only where it was counted.
+    ensures store_fault { result ≡ Status.StoreFault → Rose (S.faults store.old) (S.faults store.new) }
+    ensures sink_fault { result ≡ Status.SinkFault → Rose (O.faults out.old) (O.faults out.new) }
+    // A refusal is what the command means.
+    ensures refused { (r : Refusal) → result ≡ Status.Refused r → IfSome (S.files store.old) (λ told. WordsMean words.now told (refuses r)) }
+    // What the command means is the answer, unless a fault was counted or memory was wanted.
+    ensures exact { (told : Files) → S.files store.old ≡ Some told → (o : Outcome) → WordsMean words.now told o
+        → Yields o.status
+        (outside (S.files store.old) (S.faults store.old) (O.bytes out.old) (O.faults out.old))
+        (outside (S.files store.new) (S.faults store.new) (O.bytes out.new) (O.faults out.new)) result }
+    // A status of the command's own is what the command means: out grew by its text, and its file was put.
+    ensures came { kind_of result ≡ own → IfSome (S.files store.old) (CameTo (WordsMean words.now)
+        (outside (S.files store.old) (S.faults store.old) (O.bytes out.old) (O.faults out.old))
+        (outside (S.files store.new) (S.faults store.new) (O.bytes out.new) (O.faults out.new)) result) }
+    // Whatever the status, out grew by a prefix of the command's text; with most by nothing.
+    ensures part { (told : Files) → S.files store.old ≡ Some told → (o : Outcome) → WordsMean words.now told o
+        → GrewByPart (O.bytes out.old) (O.bytes out.new) o.text }
+    ensures silent { StaysUnless (at_once (command_of words.now)) result (O.bytes out.old) (O.bytes out.new) }
+    // err grew by the line of the status.
+    ensures line { Reports (E.bytes err.old) (E.bytes err.new) (E.faults err.old) (E.faults err.new) result }
+    // No file changes but the one that the words name as an output.
+    ensures files { KeepsFiles (command_of words.now) (S.files store.old) (S.files store.new) }
+    // Where nothing speaks against it, the command is done, or memory was wanted.
+    ensures complete { (told : Files) → S.files store.old ≡ Some told → IsSome (command_of words.now)
+        → ((r : Refusal) → ¬ WordsMean words.now told (refuses r))
+        → ¬ Rose (S.faults store.old) (S.faults store.new) → ¬ Rose (O.faults out.old) (O.faults out.new)
+        → IsEnded result }
+    ensures store_count { S.faults store.old ≤ S.faults store.new }
+    ensures out_count { O.faults out.old ≤ O.faults out.new }
+    ensures err_count { E.faults err.old ≤ E.faults err.new }
+{
+    entry(alloc, words, store, out, err)
+}

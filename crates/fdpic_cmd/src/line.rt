@@ -1,0 +1,75 @@
+//! The line of a status on the standard error.
+
+ghost use Rattle.std.specs.Prelude.{◌≡◌, ◌++◌, IfOk, OnOk, codes};
+ghost use Rattle.fd_base.specs.Texts.{shown};
+ghost use Rattle.fdpic_cmd.specs.Lines as spec;
+
+use crate::status::{Refusal, Status};
+use fd_base::{Bytes, Memory, Name, put_dec, put_shown};
+use mod_load::LoadRefusal;
+use std::alloc::Global;
+
+/// Puts a word and a name.
+fn put_named(out: &mut Bytes, word: &[u8], name: &Name) -> Result<(), Memory>
+    ensures { OnOk result (out.new ≡ out.old ++ (word.now ++ shown name.now)) }
+{
+    out.extend_from_slice(word)?;
+    put_shown(out, name)
+}
+
+/// Puts what is said of a refused load.
+#[tactic(auto, unfolding(crate::specs::Lines::load_text))]
+fn put_load(out: &mut Bytes, refusal: &LoadRefusal) -> Result<(), Memory>
+    ensures { OnOk result (out.new ≡ out.old ++ spec.load_text refusal.now) }
+{
+    match refusal {
+        LoadRefusal::NotBuilt(name) => put_named(out, b"NotBuilt ", name),
+        LoadRefusal::NoFile(name) => put_named(out, b"NoFile ", name),
+        LoadRefusal::TooLong(name) => put_named(out, b"TooLong ", name),
+        LoadRefusal::TooManyModules => out.extend_from_slice(b"TooManyModules"),
+        LoadRefusal::NoRoom(item) => {
+            out.extend_from_slice(b"NoRoom ")?;
+            put_dec(out, *item)
+        }
+    }
+}
+
+/// Puts what is said of a refusal.
+#[tactic(auto, unfolding(crate::specs::Lines::refusal_text))]
+fn put_refusal(out: &mut Bytes, refusal: &Refusal) -> Result<(), Memory>
+    ensures { OnOk result (out.new ≡ out.old ++ spec.refusal_text refusal.now) }
+{
+    match refusal {
+        Refusal::NoFile(name) => put_named(out, b"no file ", name),
+        Refusal::TooLong(name) => put_named(out, b"too long ", name),
+        Refusal::Load(refusal) => {
+            out.extend_from_slice(b"load ")?;
+            put_load(out, refusal)
+        }
+    }
+}
+
+/// Puts what is said of a status.
+#[tactic(auto, unfolding(crate::specs::Lines::status_text))]
+fn put_status(out: &mut Bytes, status: &Status) -> Result<(), Memory>
+    ensures { OnOk result (out.new ≡ out.old ++ spec.status_text status.now) }
+{
+    match status {
+        Status::Done => Ok(()),
+        Status::Memory => out.extend_from_slice(b"out of memory"),
+        Status::Words => out.extend_from_slice(b"words"),
+        Status::StoreFault => out.extend_from_slice(b"store fault"),
+        Status::SinkFault => out.extend_from_slice(b"sink fault"),
+        Status::Refused(refusal) => put_refusal(out, refusal),
+    }
+}
+
+/// The line that tells a status.
+pub fn line(alloc: Global, status: &Status) -> Result<Bytes, Memory>
+    ensures { IfOk result (λ text. text ≡ spec.line (spec.status_text status.now)) }
+{
+    let mut text = Bytes::from_slice(alloc, b"fdpic: ")?;
+    put_status(&mut text, status)?;
+    text.push(b'\n')?;
+    Ok(text)
+}

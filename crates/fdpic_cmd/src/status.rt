@@ -1,0 +1,71 @@
+//! How the program ends.
+
+use fd_base::Name;
+use mod_load::LoadRefusal;
+use std::alloc::AllocError;
+
+/// Why a command is refused.
+#[derive(Debug, Drop)]
+pub enum Refusal {
+    /// There is no file of this name, which the words name.
+    NoFile(Name),
+    /// The file of this name, which the words name, is longer than `MAX_FILE`.
+    TooLong(Name),
+    /// Loading is refused, for another cause than these.
+    Load(LoadRefusal),
+}
+
+/// How the program ends.
+#[derive(Debug, Drop)]
+pub enum Status {
+    /// The command is done.
+    Done,
+    /// Memory was wanted.
+    Memory,
+    /// The words have no listed form.
+    Words,
+    /// The store failed.
+    StoreFault,
+    /// The standard output failed.
+    SinkFault,
+    /// The command is refused.
+    Refused(Refusal),
+}
+
+impl Status {
+    ghost use Rattle.std.specs.Prelude.{◌≡◌};
+    ghost use Rattle.fdpic_cmd.specs.Exits.{exit_of};
+
+    /// The exit status of the process.
+    pub fn code(&self) -> u8
+        ensures { result ≡ exit_of self.now }
+    {
+        match self {
+            Status::Done => 0,
+            Status::Memory => 1,
+            Status::Words => 2,
+            Status::StoreFault => 3,
+            Status::SinkFault => 4,
+            Status::Refused(_) => 5,
+        }
+    }
+}
+
+/// Why a command has no text.
+#[derive(Debug, Drop)]
+pub enum Failure {
+    Refused(Refusal),
+    StoreFault,
+    Memory,
+}
+
+impl From<AllocError> for Failure {
+    ghost use Rattle.std.specs.Prelude.{◌≡◌};
+    ghost use Rattle.fdpic_cmd.specs.declared.status.Failure.TheVariants.{Memory};
+
+    ghost from_gives = { λ _ e. e ≡ Memory };
+
+    fn from(_error: AllocError) -> Self {
+        Failure::Memory
+    }
+}
