@@ -1,6 +1,6 @@
 -- A process stays consistent when a planned module is added.
-use Rattle.std.proofs.Common.{◌≡◌, ◌≢◌, ℕ, zero, suc, ◌+◌, ◌*◌, ◌%◌, ◌^◌, ◌<◌, ◌≤◌, ◌⊎◌, ◌↔◌, inl, inr, Bool, true, false, cond, List, [], ◌∷◌, ◌++◌, length, map, get_or, slice_get, Option, Some, None, refl, sym, ap, subst, ◌∙◌, arith, All, AllPairs, add-zero, length-append}
-use Rattle.std.specs.Prelude.{position, Contains}
+use Rattle.std.proofs.Common.{◌≡◌, ◌≢◌, ℕ, zero, suc, ◌+◌, ◌^◌, ◌<◌, ◌≤◌, ◌⊎◌, inl, inr, Bool, false, List, [], ◌∷◌, ◌++◌, length, get_or, slice_get, Some, None, refl, sym, ap, subst, ◌∙◌, arith, All, add-zero, length-append}
+use Rattle.std.specs.Prelude.{Contains}
 use Rattle.std.specs.List.{AllZip, position_from}
 use Rattle.std.specs.Str.{bytes_eq}
 use Rattle.std.proofs.lemmas.Bool.{cases_Bool, cond-true, cond-false}
@@ -12,12 +12,11 @@ use Rattle.std.proofs.lemmas.List.Quantifiers.{all_pairs_push}
 use Rattle.std.proofs.lemmas.Slice.Eq.{bytes_eq-Decides}
 use Rattle.fd_base.specs.declared.map.MapEntry.{MapEntry}
 use Rattle.elf_model.specs.declared.object.Segment.{Segment}
-use Rattle.elf_model.specs.declared.object.Object.{Object}
 use Rattle.elf_model.specs.Sound.{IsSound}
 use Rattle.placement.specs.declared.item.Item.{Item}
 use Rattle.placement.specs.declared.item.Held.{Held}
 use Rattle.placement.specs.Placed.{Placed, range_at}
-use Rattle.placement.specs.Space.{Space, IsOwned, SameRanges, AreApart, all_held, ranges_at}
+use Rattle.placement.specs.Space.{Space, IsOwned, SameRanges, all_held, ranges_at}
 use Rattle.placement.proofs.Order.{same_all, apart_all}
 use Rattle.mod_load.specs.declared.plan.MemPlan.{MemPlan}
 use Rattle.mod_load.specs.declared.module.Module.{Module}
@@ -27,7 +26,7 @@ use Rattle.mod_load.specs.Items.{item_of, items_of, load_map_of}
 use Rattle.mod_load.specs.Bounds.{EndsBelow, IsMapOf}
 use Rattle.mod_load.specs.Fit.{IsFit}
 use Rattle.mod_load.specs.Loaded.{Loaded, State, IsEntryOf, IsStanding, IsConsistent, ranges_of, ranges_from, with_added}
-use Rattle.mod_load.specs.Accepts.{number_of, IsNew, IsPlacedModule, IsReady, new_items}
+use Rattle.mod_load.specs.Accepts.{number_of, IsNew, IsPlacedModule, IsReady}
 use Rattle.mod_load.proofs.Itemized.{items_owned, length-items_of}
 
 -- ---- names
@@ -65,13 +64,15 @@ entries : (plan : MemPlan) (held : List Held) (owner : ℕ) (ss : List Segment) 
 entries plan held owner [] listed [] placed = tt
 entries plan held owner [] listed (at ∷ addrs) placed = absurd placed
 entries plan held owner (s ∷ ss) [] [] placed = absurd placed
-entries plan held owner (s ∷ ss) [] (at ∷ addrs) placed =
-    (record { vaddr' = refl; memsz' = refl; above = placed.0.legal.above; below = placed.0.legal.below; congruent = placed.0.legal.congruent },
-    entries plan _ owner ss [] addrs placed.1)
+entries plan held owner (s ∷ ss) [] (at ∷ addrs) placed = (
+  record { vaddr' = refl; memsz' = refl; above = placed.0.legal.above; below = placed.0.legal.below; congruent = placed.0.legal.congruent },
+  entries plan _ owner ss [] addrs placed.1,
+)
 entries plan held owner (s ∷ ss) (x ∷ listed) [] placed = absurd placed
-entries plan held owner (s ∷ ss) (x ∷ listed) (at ∷ addrs) placed =
-    (record { vaddr' = refl; memsz' = refl; above = placed.0.legal.above; below = placed.0.legal.below; congruent = placed.0.legal.congruent },
-    entries plan _ owner ss listed addrs placed.1)
+entries plan held owner (s ∷ ss) (x ∷ listed) (at ∷ addrs) placed = (
+  record { vaddr' = refl; memsz' = refl; above = placed.0.legal.above; below = placed.0.legal.below; congruent = placed.0.legal.congruent },
+  entries plan _ owner ss listed addrs placed.1,
+)
 
 -- ---- what is held
 
@@ -105,14 +106,14 @@ ranges_more l a same placed =
     let m = a.module in
     let n = length l.modules in
     let new : ranges_at a.items a.addrs ≡ ranges_of n m.load_map =
-      ap (λ items. ranges_at items a.addrs) placed.items'
-      ∙ ranges_are n m.object.segments (listed_for l.plan.places m.name) a.addrs
-      ∙ ap (ranges_of n) (sym placed.load_map') in
+    ap (λ items. ranges_at items a.addrs) placed.items'
+    ∙ ranges_are n m.object.segments (listed_for l.plan.places m.name) a.addrs
+    ∙ ap (ranges_of n) (sym placed.load_map') in
     let zero_n : 0 + n ≡ n = omega arith in
     let all : ranges_from 0 l.modules ++ ranges_at a.items a.addrs ≡ ranges_from 0 (l.modules ++ m ∷ []) =
-      ap (λ rs. ranges_from 0 l.modules ++ rs) new
-      ∙ ap (λ k. ranges_from 0 l.modules ++ ranges_of k m.load_map) (sym zero_n)
-      ∙ sym (ranges_pushed 0 l.modules m) in
+    ap (λ rs. ranges_from 0 l.modules ++ rs) new
+    ∙ ap (λ k. ranges_from 0 l.modules ++ ranges_of k m.load_map) (sym zero_n)
+    ∙ sym (ranges_pushed 0 l.modules m) in
     let held = same_all a.items a.addrs l.held in
     let more = same_in_front l.held (ranges_from 0 l.modules) (ranges_at a.items a.addrs) same in
     subst (SameRanges (all_held a.items a.addrs l.held)) all (λ r. ((λ h. (more r).0 ((held r).0 h)), (λ h. (held r).1 ((more r).1 h))))

@@ -1,6 +1,6 @@
 -- What a sound object says of the words that loading writes into it.
-use Rattle.std.proofs.Common.{◌≡◌, ℕ, zero, suc, ◌+◌, ◌-◌, ◌^◌, ◌<◌, ◌≤◌, ◌⊎◌, inl, inr, Bool, true, false, cond, leb, ◌&&◌, ◌||◌, List, [], ◌∷◌, ◌++◌, length, map, get_or, slice_index, refl, sym, ap, subst, ◌∙◌, arith, All, AllPairs}
-use Rattle.std.specs.List.{list_any, flat_map}
+use Rattle.std.proofs.Common.{◌≡◌, ℕ, zero, suc, ◌+◌, ◌-◌, ◌^◌, ◌<◌, ◌≤◌, ◌⊎◌, inl, inr, true, false, cond, leb, ◌&&◌, List, [], ◌∷◌, ◌++◌, length, map, get_or, slice_index, refl, sym, ap, subst, ◌∙◌, arith, All, AllPairs}
+use Rattle.std.specs.List.{flat_map}
 use Rattle.std.proofs.lemmas.Bool.{and_parts, or_cases, leb-true, and_from, and_left, and_right, le-leb, lt-ltb, lt-leb, le-ltb}
 use Rattle.std.proofs.lemmas.List.Elements.{All-nil, All-cons, All-head, All-tail, All-append}
 use Rattle.fd_base.specs.declared.map.MapEntry.{MapEntry}
@@ -10,7 +10,7 @@ use Rattle.elf_model.specs.declared.object.Segment.{Segment}
 use Rattle.elf_model.specs.declared.object.Rel.{Rel}
 use Rattle.elf_model.specs.declared.object.Object.{Object}
 use Rattle.elf_model.specs.Segments.{has_flag}
-use Rattle.elf_model.specs.Relocations.{site_size, got_header, word_site}
+use Rattle.elf_model.specs.Relocations.{site_size, got_header}
 use Rattle.elf_model.specs.Places.{spans, is_writable_in, is_held_in, file_byte, file_word, site_of_rel, filled_ranges}
 use Rattle.elf_model.specs.Sound.{IsSound, IsSized, IsInPlace, IsWhole, SegmentsApart}
 use Rattle.mod_load.specs.declared.module.LinkWord.{LinkWord}

@@ -1,4 +1,5 @@
 pub mod Consistency
+pub mod Determined
 pub mod Filled
 pub mod Itemized
 pub mod Parts

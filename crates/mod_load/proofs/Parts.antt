@@ -1,5 +1,5 @@
 -- One more part of an image.
-use Rattle.std.proofs.Common.{◌≡◌, ℕ, zero, suc, ◌+◌, ◌-◌, ◌<◌, ◌≤◌, List, [], ◌∷◌, ◌++◌, length, get_or, slice_index, take, refl, sym, ap, subst, ◌∙◌, arith, cond}
+use Rattle.std.proofs.Common.{◌≡◌, ℕ, ◌+◌, ◌-◌, ◌<◌, ◌≤◌, List, [], ◌∷◌, ◌++◌, length, get_or, slice_index, take, sym, ap, subst, ◌∙◌, arith, cond}
 use Rattle.std.specs.List.{AllZip}
 use Rattle.std.proofs.lemmas.List.{take_all, take_more}
 use Rattle.fd_base.specs.declared.map.MapEntry.{MapEntry}
@@ -40,7 +40,7 @@ part_more load_map number o words image i s part mapped lt at all before size by
     let is_part : R e part = record {
       len = size ∙ sym memsz;
       bytes = λ j in'. bytes j (omega arith) ∙ ap (λ ws. byte_over ws (file_byte o.segments) (s.vaddr + j)) all
-      ∙ ap (λ n. image_of load_map number o (n + j)) (sym vaddr);
+          ∙ ap (λ n. image_of load_map number o (n + j)) (sym vaddr);
     } in
     let P : List MapEntry → Type 0 = λ m. AllZip R m (image ++ part ∷ []) in
     subst P (sym (take_more load_map i d within)) (zip_push R (take i load_map) image e part before is_part)

@@ -1,16 +1,16 @@
 -- What stands at a slot of a placed module.
-use Rattle.std.proofs.Common.{◌≡◌, ℕ, zero, suc, ◌+◌, ◌-◌, ◌*◌, ◌^◌, ◌<◌, ◌≤◌, ◌⊎◌, inl, inr, Bool, true, false, cond, leb, ltb, ◌&&◌, ◌||◌, List, [], ◌∷◌, ◌++◌, length, map, get_or, slice_get, slice_index, Option, Some, None, refl, sym, ap, subst, ◌∙◌, arith, add-zero, All, AllPairs}
+use Rattle.std.proofs.Common.{◌≡◌, ℕ, zero, suc, ◌+◌, ◌-◌, ◌^◌, ◌<◌, ◌≤◌, ◌⊎◌, inl, inr, Bool, true, leb, ltb, ◌&&◌, List, [], ◌∷◌, ◌++◌, length, map, get_or, slice_get, slice_index, Option, Some, None, refl, sym, ap, subst, ◌∙◌, arith, add-zero, All, AllPairs}
 use Rattle.std.specs.Prelude.{find, option_map, unwrap_or}
 use Rattle.std.specs.Option.{option_or}
 use Rattle.std.specs.List.{AllZip, list_any, flat_map}
 use Rattle.std.specs.Int.{w32, to_le_bytes}
 use Rattle.std.proofs.lemmas.Bool.{and_parts, and_from, or_cases, or_left, or_right, cases_Bool, cond-true, cond-false, leb-true, le-leb, ltb-true, eqb-true}
-use Rattle.std.proofs.lemmas.List.Elements.{All-nil, All-cons, All-head, All-tail, All-append}
+use Rattle.std.proofs.lemmas.List.Elements.{All-head, All-tail}
 use Rattle.std.proofs.lemmas.List.{length-map, get_or-map}
 use Rattle.std.proofs.lemmas.Option.{slice_get-map, slice_get-get_or}
 use Rattle.fd_base.specs.declared.map.MapEntry.{MapEntry}
 use Rattle.fd_base.specs.LoadMap.{address_of, is_held_by, is_end_of, placed_by}
-use Rattle.fd_base.specs.Words.{word_in, with_word}
+use Rattle.fd_base.specs.Words.{word_in}
 use Rattle.fd_base.proofs.Putting.{word_in-bytes, word_in-with_word}
 use Rattle.elf_model.specs.declared.constants.TheConstants.{R_ARM_FUNCDESC_VALUE, PF_W}
 use Rattle.elf_model.specs.declared.table.Site.{Site}
@@ -25,11 +25,11 @@ use Rattle.mod_load.specs.declared.module.LinkWord.{LinkWord}
 use Rattle.mod_load.specs.declared.module.Module.{Module}
 use Rattle.mod_load.specs.declared.module.SlotPair.{SlotPair}
 use Rattle.mod_load.specs.declared.module.TheConstants.{RESOLVER}
-use Rattle.mod_load.specs.Image.{placed, load_map_at, got_words, slot_words, words_of, is_in_word, byte_over, image_of, IsPart, IsImage}
+use Rattle.mod_load.specs.Image.{placed, load_map_at, slot_words, is_in_word, byte_over, image_of, IsPart}
 use Rattle.mod_load.specs.Bounds.{EndsBelow, IsMapOf}
 use Rattle.mod_load.specs.Kept.{spans_word, stored_word, HasImage, HasParts}
 use Rattle.mod_load.specs.Slots.{slot_pair_at, slot_pairs_of}
-use Rattle.mod_load.proofs.Filled.{all_front, all_back, pairs_head, pairs_tail, of_slots, slots_apart, got_apart, slot_size, has_words}
+use Rattle.mod_load.proofs.Filled.{pairs_head, pairs_tail, of_slots, slots_apart, got_apart, slot_size, has_words}
 use Rattle.mod_load.proofs.Writing.{is_in, is_off}
 
 -- ---- the first words of a list
@@ -116,8 +116,8 @@ past_header load_map number o k v d sound lt above below =
     let q = get_or o.jmprels k d in
     let within : k < length (map site_of_rel o.jmprels) = omega (arith, length-map o.jmprels site_of_rel) in
     let apart : RangesApart (got_header o.got) (site_of_rel q) =
-      subst (λ (t : Site). RangesApart (got_header o.got) t) (get_or-map site_of_rel o.jmprels k d (site_of_rel d) lt)
-      (got_apart RangesApart o sound.distinct k (site_of_rel d) within) in
+    subst (λ (t : Site). RangesApart (got_header o.got) t) (get_or-map site_of_rel o.jmprels k d (site_of_rel d) lt)
+    (got_apart RangesApart o sound.distinct k (site_of_rel d) within) in
     let whole = slot_size q (sound.slot_kinds k d lt) in
     let first : LinkWord = record { addr = o.got; value = RESOLVER } in
     let second : LinkWord = record { addr = o.got + 4; value = number } in
@@ -170,10 +170,10 @@ stored_is load_map (e ∷ es) number o (part ∷ image) v w parts some bytes sma
           let below = leb-true (v + 4) (e.vaddr + e.memsz) ends.1 in
           let at = v - e.vaddr in
           let same : (j : ℕ) → j < 4 → slice_index part (at + j) ≡ slice_index (to_le_bytes w32 w) (0 + j) =
-            λ j lt.
-            let place : e.vaddr + (at + j) ≡ v + j = omega (arith, above) in
-            let zero_j : j ≡ 0 + j = omega arith in
-            parts.0.bytes (at + j) (omega (arith, above, below)) ∙ ap (image_of load_map number o) place ∙ bytes j lt ∙ ap (slice_index (to_le_bytes w32 w)) zero_j in
+          λ j lt.
+          let place : e.vaddr + (at + j) ≡ v + j = omega (arith, above) in
+          let zero_j : j ≡ 0 + j = omega arith in
+          parts.0.bytes (at + j) (omega (arith, above, below)) ∙ ap (image_of load_map number o) place ∙ bytes j lt ∙ ap (slice_index (to_le_bytes w32 w)) zero_j in
           cond-true (spans_word e v) (word_in part at) (stored_word es image v) spans
           ∙ word_same part (to_le_bytes w32 w) at 0 same ∙ word_of_bytes w small
       | inr not_here ↦
@@ -265,23 +265,23 @@ slot_is m k addr code got r sound mapped ends image lt is is_addr is_code is_got
     let here : get_or o.jmprels k r ≡ r = sym is in
     let at : slice_get o.jmprels k ≡ Some r = slice_get-get_or o.jmprels k r lt ∙ ap (λ (t : Rel). Some t) here in
     let in_place : IsInPlace o.segments (site_of_rel r) =
-      let within : k < length (map site_of_rel o.jmprels) = omega (arith, length-map o.jmprels site_of_rel) in
-      subst (λ (t : Site). IsInPlace o.segments t) (get_or-map site_of_rel o.jmprels k r (site_of_rel r) lt ∙ ap site_of_rel here)
-      (of_slots (IsInPlace o.segments) o sound.in_place k (site_of_rel r) within) in
+    let within : k < length (map site_of_rel o.jmprels) = omega (arith, length-map o.jmprels site_of_rel) in
+    subst (λ (t : Site). IsInPlace o.segments t) (get_or-map site_of_rel o.jmprels k r (site_of_rel r) lt ∙ ap site_of_rel here)
+    (of_slots (IsInPlace o.segments) o sound.in_place k (site_of_rel r) within) in
     let size : (site_of_rel r).size ≡ 8 = slot_size r (subst (λ (t : Rel). t.kind ≡ R_ARM_FUNCDESC_VALUE) here (sound.slot_kinds k r lt)) in
     let writable : is_writable_in o.segments r.site 8 ≡ true = subst (λ (n : ℕ). is_writable_in o.segments r.site n ≡ true) size in_place.writable in
     let code_bytes : (j : ℕ) → j < 4 → image_of m.load_map image.0 o (r.site + j) ≡ slice_index (to_le_bytes w32 (placed m.load_map (file_word o.segments r.site))) j =
-      subst (λ (t : Rel). (j : ℕ) → j < 4 → image_of m.load_map image.0 o (t.site + j) ≡ slice_index (to_le_bytes w32 (placed m.load_map (file_word o.segments t.site))) j) here
-      (λ j in'. image_code m.load_map image.0 o k j r sound lt in') in
+    subst (λ (t : Rel). (j : ℕ) → j < 4 → image_of m.load_map image.0 o (t.site + j) ≡ slice_index (to_le_bytes w32 (placed m.load_map (file_word o.segments t.site))) j) here
+    (λ j in'. image_code m.load_map image.0 o k j r sound lt in') in
     let got_bytes : (j : ℕ) → j < 4 → image_of m.load_map image.0 o (r.site + 4 + j) ≡ slice_index (to_le_bytes w32 (placed m.load_map o.got)) j =
-      subst (λ (t : Rel). (j : ℕ) → j < 4 → image_of m.load_map image.0 o (t.site + 4 + j) ≡ slice_index (to_le_bytes w32 (placed m.load_map o.got)) j) here
-      (λ j in'. image_got m.load_map image.0 o k j r sound lt in') in
+    subst (λ (t : Rel). (j : ℕ) → j < 4 → image_of m.load_map image.0 o (t.site + 4 + j) ≡ slice_index (to_le_bytes w32 (placed m.load_map o.got)) j) here
+    (λ j in'. image_got m.load_map image.0 o k j r sound lt in') in
     let code' : code ≡ placed m.load_map (file_word o.segments r.site) =
-      is_code ∙ stored_is m.load_map m.load_map image.0 o m.image r.site (placed m.load_map (file_word o.segments r.site)) image.1
-      (spanned o.segments m.load_map r.site 8 r.site mapped writable (omega arith) (omega arith)) code_bytes (placed_small m.load_map (file_word o.segments r.site) ends) in
+    is_code ∙ stored_is m.load_map m.load_map image.0 o m.image r.site (placed m.load_map (file_word o.segments r.site)) image.1
+    (spanned o.segments m.load_map r.site 8 r.site mapped writable (omega arith) (omega arith)) code_bytes (placed_small m.load_map (file_word o.segments r.site) ends) in
     let got' : got ≡ placed m.load_map o.got =
-      is_got ∙ stored_is m.load_map m.load_map image.0 o m.image (r.site + 4) (placed m.load_map o.got) image.1
-      (spanned o.segments m.load_map r.site 8 (r.site + 4) mapped writable (omega arith) (omega arith)) got_bytes (placed_small m.load_map o.got ends) in
+    is_got ∙ stored_is m.load_map m.load_map image.0 o m.image (r.site + 4) (placed m.load_map o.got) image.1
+    (spanned o.segments m.load_map r.site 8 (r.site + 4) mapped writable (omega arith) (omega arith)) got_bytes (placed_small m.load_map o.got ends) in
     let pair_of : ℕ → ℕ → ℕ → Option SlotPair = λ a c g. let p : SlotPair = record { addr = a; code = c; got = g } in Some p in
     ap (λ a. pair_of a code got) is_addr
     ∙ ap (λ c. pair_of (placed m.load_map r.site) c got) code'

@@ -1,5 +1,5 @@
 -- The placed bytes that a module keeps.
-use Rattle.std.specs.Prelude.{◌≡◌, ℕ, zero, ◌+◌, ◌-◌, Bool, ◌&&◌, nat_le, List, [], ◌∷◌, length, if◌then◌else◌}
+use Rattle.std.specs.Prelude.{◌≡◌, ℕ, ◌+◌, ◌-◌, Bool, ◌&&◌, nat_le, List, [], ◌∷◌, length, if◌then◌else◌}
 use Rattle.std.specs.List.{AllZip}
 use Rattle.fd_base.specs.declared.map.MapEntry.{MapEntry}
 use Rattle.fd_base.specs.Words.{word_in}

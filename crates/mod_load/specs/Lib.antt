@@ -5,6 +5,7 @@ pub mod Fit
 pub mod Image
 pub mod Items
 pub mod Kept
+pub mod Laws
 pub mod Loaded
 pub mod Loading
 pub mod Plan

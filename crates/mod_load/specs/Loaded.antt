@@ -1,12 +1,12 @@
 -- What a loader holds: one process over its memory plan.
-use Rattle.std.specs.Prelude.{◌≡◌, ◌≢◌, ℕ, ◌+◌, ◌*◌, ◌%◌, ◌^◌, ◌<◌, ◌≤◌, List, [], ◌∷◌, ◌++◌, length, map, slice_get, Option, Some, None, AllPairs}
+use Rattle.std.specs.Prelude.{◌≡◌, ◌≢◌, ℕ, ◌+◌, ◌%◌, ◌≤◌, List, [], ◌∷◌, ◌++◌, length, map, slice_get, Option, Some, None, AllPairs}
 use Rattle.std.specs.List.{AllZip}
 use Rattle.fd_base.specs.declared.map.MapEntry.{MapEntry}
 use Rattle.elf_model.specs.declared.object.Segment.{Segment}
 use Rattle.elf_model.specs.Sound.{IsSound}
 use Rattle.placement.specs.declared.item.Held.{Held}
 use Rattle.placement.specs.Legal.{unit_of}
-use Rattle.placement.specs.Space.{Space, AreApart, SameRanges, all_held}
+use Rattle.placement.specs.Space.{AreApart, SameRanges, all_held}
 use Rattle.mod_load.specs.declared.plan.MemPlan.{MemPlan}
 use Rattle.mod_load.specs.declared.module.TheConstants.{MAX_MODULES}
 use Rattle.mod_load.specs.declared.module.Module.{Module}

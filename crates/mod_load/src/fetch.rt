@@ -26,7 +26,9 @@ pub fn fetched<S: Store>(alloc: Global, store: &mut S, name: &Name) -> Result<Ob
         Ok(None) => Err(LoadErr::Refused(LoadRefusal::NoFile(name.copy(alloc)?))),
         Ok(Some(bytes)) => match read_object(alloc, bytes.as_slice()) {
             Ok(object) => Ok(object),
-            Err(ReadErr::NotBuilt) => Err(LoadErr::Refused(LoadRefusal::NotBuilt(name.copy(alloc)?))),
+            Err(ReadErr::NotBuilt) => Err(LoadErr::Refused(LoadRefusal::NotBuilt(name.copy(
+                alloc,
+            )?))),
             Err(ReadErr::Memory) => Err(LoadErr::Memory),
         },
     }

@@ -7,6 +7,7 @@ mod fetch;
 mod file;
 mod image;
 mod items;
+mod laws;
 mod loader;
 mod module;
 mod placing;
@@ -15,6 +16,7 @@ mod slots;
 mod words;
 
 pub use error::{LoadErr, LoadRefusal};
+pub use laws::{loads_are_determined, plans_are_determined};
 pub use loader::Loader;
 pub use module::{
     Added, GroupPlan, Image, LOAD_MAP_SIZE, LOAD_MAPS, LinkWord, LoadMap, MAX_MODULES, Module,

@@ -167,6 +167,6 @@ same_all (item ∷ items) (at ∷ addrs) held =
     let new = range_at item at in
     let rest = ranges_at items addrs in
     let more : SameRanges (held_with new held ++ rest) ((held ++ new ∷ []) ++ rest) =
-      same_in_front (held_with new held) (held ++ new ∷ []) rest (same_turned (held ++ new ∷ []) (held_with new held) (same_with new held)) in
+    same_in_front (held_with new held) (held ++ new ∷ []) rest (same_turned (held ++ new ∷ []) (held_with new held) (same_with new held)) in
     let joined : SameRanges (held_with new held ++ rest) (held ++ new ∷ rest) = subst (SameRanges (held_with new held ++ rest)) (append_assoc held (new ∷ []) rest) more in
     same_trans (all_held items addrs (held_with new held)) (held_with new held ++ rest) (held ++ new ∷ rest) (same_all items addrs (held_with new held)) joined

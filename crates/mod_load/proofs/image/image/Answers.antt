@@ -1,5 +1,5 @@
 use Rattle.std.proofs.Common.{◌∙◌}
-use Rattle.mod_load.proofs.Filled.{has_words, whole_words, own_bytes_at, whole_at}
+use Rattle.mod_load.proofs.Filled.{has_words, own_bytes_at, whole_at}
 use Rattle.mod_load.proofs.Parts.{part_more, all_parts}
 use Rattle.mod_load.proofs.image.image.Goals as goal
 

@@ -1,4 +1,4 @@
-use Rattle.std.proofs.Common.{arith, ◌∙◌}
+use Rattle.std.proofs.Common.{◌∙◌}
 use Rattle.mod_load.proofs.Itemized.{mapped, map_ends}
 use Rattle.mod_load.proofs.placing.places_of.Goals as goal
 

@@ -1,4 +1,4 @@
-use Rattle.std.proofs.Common.{arith, ◌∙◌}
+use Rattle.std.proofs.Common.{arith}
 use Rattle.mod_load.proofs.SlotWords.{slot_is, slot_end, has_parts}
 use Rattle.mod_load.proofs.slots.slot_pair.Goals as goal
 
