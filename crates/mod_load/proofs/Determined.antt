@@ -1,6 +1,6 @@
 -- A load has one plan, or one refusal, and not both.
 use Rattle.std.proofs.Common.{◌≡◌, ℕ, ◌<◌, ◌≤◌, List, [], ◌∷◌, length, map, Option, Some, None, ◌⊎◌, inl, inr, refl, sym, ap, subst, ◌∙◌, arith}
-use Rattle.std.specs.Prelude.{IsSomeAnd}
+use Rattle.std.specs.Prelude.{IsSomeAnd, false, true}
 use Rattle.std.specs.List.{AllZip}
 use Rattle.std.specs.FinMap.{get}
 use Rattle.std.proofs.lemmas.List.{ext_get_or}
@@ -8,6 +8,10 @@ use Rattle.fd_base.specs.declared.map.MapEntry.{MapEntry}
 use Rattle.fd_base.specs.declared.store.TheConstants.{MAX_FILE}
 use Rattle.fd_base.specs.Fetched.{Files}
 use Rattle.elf_model.specs.declared.object.Object.{Object}
+use Rattle.elf_model.specs.declared.refusal.ElfRefusal.{ElfRefusal}
+use Rattle.elf_model.specs.Object.{refusal_of}
+use Rattle.mod_load.specs.Built.{is_built}
+use Rattle.std.proofs.lemmas.Bool.{false≢true}
 use Rattle.placement.specs.declared.item.Item.{Item}
 use Rattle.placement.specs.Placed.{Placed, FailsAt}
 use Rattle.placement.proofs.Placing.{placed_once, placed_or_fails, fails_once}
@@ -16,12 +20,12 @@ use Rattle.mod_load.specs.declared.module.Added.{Added}
 use Rattle.mod_load.specs.declared.module.GroupPlan.{GroupPlan}
 use Rattle.mod_load.specs.declared.module.TheConstants.{MAX_MODULES}
 use Rattle.mod_load.specs.declared.error.LoadRefusal.{LoadRefusal}
-use Rattle.mod_load.specs.declared.error.LoadRefusal.TheVariants.{NotBuilt, NoFile, TooLong, TooManyModules, NoRoom}
+use Rattle.mod_load.specs.declared.error.LoadRefusal.TheVariants.{NotBuilt, Elf, NoFile, TooLong, TooManyModules, NoRoom}
 use Rattle.mod_load.specs.Plan.{low_of, high_of}
 use Rattle.mod_load.specs.Image.{IsPart, IsImage}
 use Rattle.mod_load.specs.Items.{load_map_of}
 use Rattle.mod_load.specs.Loaded.{Loaded, empty_over, with_added}
-use Rattle.mod_load.specs.Accepts.{IsNew, FileIs, FileIsNone, IsAdded, IsPlan, IsRefused, new_items, number_of}
+use Rattle.mod_load.specs.Accepts.{IsNew, FileIs, FileIsOther, FileIsRefused, IsAdded, IsPlan, IsRefused, new_items, number_of}
 use Rattle.mod_load.specs.Loading.{IsLoaded, IsLoadRefused}
 use Rattle.mod_load.specs.Slots.{slot_pairs_of}
 use Rattle.mod_load.specs.Laws.{PlansAreDetermined, LoadsAreDetermined}
@@ -39,7 +43,7 @@ there_or_none (Some x) P none p = absurd cc
 -- a file is one object
 same_object : (told : Files) (name : List ℕ) (o p : Object) → FileIs (Some told) name o → FileIs (Some told) name p → o ≡ p
 same_object told name o p first second =
-    both (get told name) _ _ (o ≡ p) (λ bytes x y. x.1.object.fields ∙ sym y.1.object.fields) first second
+    both (get told name) _ _ (o ≡ p) (λ bytes x y. x.1.0.fields ∙ sym y.1.0.fields) first second
 
 -- ---- one image
 
@@ -106,7 +110,8 @@ plan_once l told name g h p q = by_added g.root h.root g.added h.added p q
 pub data FileCase (l : Loaded) (told : Files) (name : List ℕ) (r : LoadRefusal) : Type 0 where
   long : r ≡ TooLong name → IsSomeAnd (get told name) (λ bytes. MAX_FILE < length bytes) → FileCase l told name r
   missing : r ≡ NoFile name → get told name ≡ None → FileCase l told name r
-  other : r ≡ NotBuilt name → FileIsNone (Some told) name → FileCase l told name r
+  refused : (e : ElfRefusal) → r ≡ Elf name e → FileIsRefused (Some told) name e → FileCase l told name r
+  other : r ≡ NotBuilt name → FileIsOther (Some told) name → FileCase l told name r
   unplaced : (i : ℕ) (o : Object) → r ≡ NoRoom i → FileIs (Some told) name o → FailsAt (low_of l.plan) (high_of l.plan) l.held (new_items l name o) i → FileCase l told name r
 
 -- every refusal but that of too many modules
@@ -115,6 +120,7 @@ file_case : (l : Loaded) (told : Files) (name : List ℕ) (r : LoadRefusal) → 
 file_case l told name TooManyModules p = inl (refl, p.1, p.0)
 file_case l told name (TooLong n) p = inr (p.0, long (ap TooLong p.1) p.2)
 file_case l told name (NoFile n) p = inr (p.0, missing (ap NoFile p.1) p.2)
+file_case l told name (Elf n e) p = inr (p.0, refused e (ap (λ m. Elf m e) p.1) p.2)
 file_case l told name (NotBuilt n) p = inr (p.0, other (ap NotBuilt p.1) p.2)
 file_case l told name (NoRoom i) p = inr (p.0, unplaced i p.1.0 refl p.1.1 p.1.2)
 
@@ -122,25 +128,49 @@ file_case l told name (NoRoom i) p = inr (p.0, unplaced i p.1.0 refl p.1.1 p.1.2
 long_or_short : (told : Files) (name : List ℕ) (P : List ℕ → Type 0) → IsSomeAnd (get told name) (λ bytes. MAX_FILE < length bytes) → IsSomeAnd (get told name) (λ bytes. (length bytes ≤ MAX_FILE) × P bytes) → ⊥
 long_or_short told name P a b = both (get told name) _ _ ⊥ (λ bytes x y. absurd (omega (arith, x, y.0))) a b
 
-object_or_none : (told : Files) (name : List ℕ) (o : Object) → FileIsNone (Some told) name → FileIs (Some told) name o → ⊥
-object_or_none told name o a b = both (get told name) _ _ ⊥ (λ bytes x y. x.1 o y.1) a b
+-- an object is loaded so far or not
+object_or_other : (told : Files) (name : List ℕ) (o : Object) → FileIsOther (Some told) name → FileIs (Some told) name o → ⊥
+object_or_other told name o a b =
+    both (get told name) _ _ ⊥ (λ bytes x y.
+    let same : x.1.0 ≡ o = x.1.1.fields ∙ sym y.1.0.fields in
+    let other : is_built o ≡ false = sym (ap is_built same) ∙ x.1.2 in
+    false≢true (sym other ∙ y.1.1)) a b
+
+-- bytes are an object or refused
+object_or_refused : (told : Files) (name : List ℕ) (o : Object) (e : ElfRefusal) → FileIsRefused (Some told) name e → FileIs (Some told) name o → ⊥
+object_or_refused told name o e a b = both (get told name) _ _ ⊥ (λ bytes x y. not_both_ways (refusal_of bytes) e x.1 y.1.0.passes) a b
+
+other_or_refused : (told : Files) (name : List ℕ) (e : ElfRefusal) → FileIsRefused (Some told) name e → FileIsOther (Some told) name → ⊥
+other_or_refused told name e a b = both (get told name) _ _ ⊥ (λ bytes x y. not_both_ways (refusal_of bytes) e x.1 y.1.1.passes) a b
+
+refused_once : (told : Files) (name : List ℕ) (d e : ElfRefusal) → FileIsRefused (Some told) name d → FileIsRefused (Some told) name e → d ≡ e
+refused_once told name d e a b = both (get told name) _ _ (d ≡ e) (λ bytes x y. let same : Some d ≡ Some e = sym x.1 ∙ y.1 in cc) a b
 
 same_case : (l : Loaded) (told : Files) (name : List ℕ) (r s : LoadRefusal) → FileCase l told name r → FileCase l told name s → r ≡ s
 same_case l told name r s (long e a) (long f b) = e ∙ sym f
 same_case l told name r s (long e a) (missing f b) = absurd (there_or_none (get told name) _ b a)
 same_case l told name r s (long e a) (other f b) = absurd (long_or_short told name _ a b)
+same_case l told name r s (long e a) (refused d f b) = absurd (long_or_short told name _ a b)
 same_case l told name r s (long e a) (unplaced j p f b c) = absurd (long_or_short told name _ a b)
 same_case l told name r s (missing e a) (long f b) = absurd (there_or_none (get told name) _ a b)
 same_case l told name r s (missing e a) (missing f b) = e ∙ sym f
 same_case l told name r s (missing e a) (other f b) = absurd (there_or_none (get told name) _ a b)
+same_case l told name r s (missing e a) (refused d f b) = absurd (there_or_none (get told name) _ a b)
 same_case l told name r s (missing e a) (unplaced j p f b c) = absurd (there_or_none (get told name) _ a b)
 same_case l told name r s (other e a) (long f b) = absurd (long_or_short told name _ b a)
 same_case l told name r s (other e a) (missing f b) = absurd (there_or_none (get told name) _ b a)
 same_case l told name r s (other e a) (other f b) = e ∙ sym f
-same_case l told name r s (other e a) (unplaced j p f b c) = absurd (object_or_none told name p a b)
+same_case l told name r s (other e a) (refused d f b) = absurd (other_or_refused told name d b a)
+same_case l told name r s (other e a) (unplaced j p f b c) = absurd (object_or_other told name p a b)
+same_case l told name r s (refused c e a) (long f b) = absurd (long_or_short told name _ b a)
+same_case l told name r s (refused c e a) (missing f b) = absurd (there_or_none (get told name) _ b a)
+same_case l told name r s (refused c e a) (refused d f b) = e ∙ ap (Elf name) (refused_once told name c d a b) ∙ sym f
+same_case l told name r s (refused c e a) (other f b) = absurd (other_or_refused told name c a b)
+same_case l told name r s (refused c e a) (unplaced j p f b d) = absurd (object_or_refused told name p c a b)
 same_case l told name r s (unplaced i o e a fails) (long f b) = absurd (long_or_short told name _ b a)
 same_case l told name r s (unplaced i o e a fails) (missing f b) = absurd (there_or_none (get told name) _ b a)
-same_case l told name r s (unplaced i o e a fails) (other f b) = absurd (object_or_none told name o b a)
+same_case l told name r s (unplaced i o e a fails) (other f b) = absurd (object_or_other told name o b a)
+same_case l told name r s (unplaced i o e a fails) (refused d f b) = absurd (object_or_refused told name o d b a)
 same_case l told name r s (unplaced i o e a fails) (unplaced j p f b c) =
     let same = same_object told name o p a b in
     let moved = subst (λ (t : Object). FailsAt (low_of l.plan) (high_of l.plan) l.held (new_items l name t) i) same fails in
@@ -162,7 +192,8 @@ refusal_once l told name r s p q =
 not_added : (l : Loaded) (told : Files) (name : List ℕ) (a : Added) (r : LoadRefusal) → IsAdded l (Some told) name a → FileCase l told name r → ⊥
 not_added l told name a r p (long e b) = long_or_short told name _ b p.file
 not_added l told name a r p (missing e b) = there_or_none (get told name) _ b p.file
-not_added l told name a r p (other e b) = object_or_none told name a.module.object b p.file
+not_added l told name a r p (other e b) = object_or_other told name a.module.object b p.file
+not_added l told name a r p (refused d e b) = object_or_refused told name a.module.object d b p.file
 not_added l told name a r p (unplaced i o e b fails) =
     let low = low_of l.plan in
     let high = high_of l.plan in

@@ -11,7 +11,8 @@ use Rattle.elf_model.specs.declared.object.Rel.{Rel}
 use Rattle.elf_model.specs.declared.object.Object.{Object}
 use Rattle.elf_model.specs.Segments.{has_flag}
 use Rattle.elf_model.specs.Relocations.{site_size, got_header}
-use Rattle.elf_model.specs.Places.{spans, is_writable_in, is_held_in, file_byte, file_word, site_of_rel, filled_ranges}
+use Rattle.elf_model.specs.Places.{spans, is_writable_in, is_held_in, file_byte, site_of_rel, filled_ranges}
+use Rattle.mod_load.specs.Built.{function_of}
 use Rattle.elf_model.specs.Sound.{IsSound, IsSized, IsInPlace, IsWhole, SegmentsApart}
 use Rattle.mod_load.specs.declared.module.LinkWord.{LinkWord}
 use Rattle.mod_load.specs.declared.module.TheConstants.{RESOLVER}
@@ -129,7 +130,7 @@ whole_slots s load_map o (r ∷ rs) whole kinds =
     let size = slot_size r (All-head (λ q. q.kind ≡ R_ARM_FUNCDESC_VALUE) r rs kinds) in
     let rest = whole_slots s load_map o rs (All-tail (IsWhole s) (site_of_rel r) (map site_of_rel rs) whole) (All-tail (λ q. q.kind ≡ R_ARM_FUNCDESC_VALUE) r rs kinds) in
     let words = flat_map (slot_words load_map o) rs in
-    let code : LinkWord = record { addr = r.site; value = placed load_map (file_word o.segments r.site) } in
+    let code : LinkWord = record { addr = r.site; value = placed load_map (function_of o r) } in
     let got : LinkWord = record { addr = r.site + 4; value = placed load_map o.got } in
     All-cons P code (got ∷ words) (word_of_whole s (site_of_rel r) code 0 here (omega arith) (omega (arith, size)))
     (All-cons P got words (word_of_whole s (site_of_rel r) got 4 here refl (omega (arith, size))) rest)

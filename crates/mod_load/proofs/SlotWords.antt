@@ -19,7 +19,8 @@ use Rattle.elf_model.specs.declared.object.Rel.{Rel}
 use Rattle.elf_model.specs.declared.object.Object.{Object}
 use Rattle.elf_model.specs.Segments.{has_flag}
 use Rattle.elf_model.specs.Relocations.{got_header}
-use Rattle.elf_model.specs.Places.{spans, is_writable_in, file_byte, file_word, site_of_rel}
+use Rattle.elf_model.specs.Places.{spans, is_writable_in, file_byte, site_of_rel}
+use Rattle.mod_load.specs.Built.{function_of}
 use Rattle.elf_model.specs.Sound.{IsSound, IsInPlace, RangesApart}
 use Rattle.mod_load.specs.declared.module.LinkWord.{LinkWord}
 use Rattle.mod_load.specs.declared.module.Module.{Module}
@@ -50,7 +51,7 @@ off_range p q off v apart fits above below = elim apart [ inl h ↦ inr (omega a
 -- ---- the words of slots
 
 code_word : List MapEntry → Object → Rel → LinkWord
-code_word load_map o r = record { addr = r.site; value = placed load_map (file_word o.segments r.site) }
+code_word load_map o r = record { addr = r.site; value = placed load_map (function_of o r) }
 
 got_word : List MapEntry → Object → Rel → LinkWord
 got_word load_map o r = record { addr = r.site + 4; value = placed load_map o.got }
@@ -79,7 +80,7 @@ apart_from r rs k d apart lt =
 
 -- the bytes of the first word of slot k
 slots_code : (load_map : List MapEntry) (o : Object) (rs : List Rel) (k j : ℕ) (d : Rel) (f : ℕ → ℕ) → AllPairs RangesApart (map site_of_rel rs) → kinds_of rs → k < length rs → j < 4
-    → byte_over (flat_map (slot_words load_map o) rs) f ((get_or rs k d).site + j) ≡ slice_index (to_le_bytes w32 (placed load_map (file_word o.segments (get_or rs k d).site))) j
+    → byte_over (flat_map (slot_words load_map o) rs) f ((get_or rs k d).site + j) ≡ slice_index (to_le_bytes w32 (placed load_map (function_of o (get_or rs k d)))) j
 unfolding kinds_of code_word got_word
 slots_code load_map o [] k j d f apart kinds lt in' = absurd (omega arith)
 slots_code load_map o (r ∷ rs) zero j d f apart kinds lt in' =
@@ -130,7 +131,7 @@ past_header load_map number o k v d sound lt above below =
     ∙ past_word third rest below_all v (off 8 (omega arith))
 
 image_code : (load_map : List MapEntry) (number : ℕ) (o : Object) (k j : ℕ) (d : Rel) → IsSound o → k < length o.jmprels → j < 4
-    → image_of load_map number o ((get_or o.jmprels k d).site + j) ≡ slice_index (to_le_bytes w32 (placed load_map (file_word o.segments (get_or o.jmprels k d).site))) j
+    → image_of load_map number o ((get_or o.jmprels k d).site + j) ≡ slice_index (to_le_bytes w32 (placed load_map (function_of o (get_or o.jmprels k d)))) j
 unfolding kinds_of
 image_code load_map number o k j d sound lt in' =
     past_header load_map number o k ((get_or o.jmprels k d).site + j) d sound lt (omega arith) (omega arith)
@@ -270,20 +271,20 @@ slot_is m k addr code got r sound mapped ends image lt is is_addr is_code is_got
     (of_slots (IsInPlace o.segments) o sound.in_place k (site_of_rel r) within) in
     let size : (site_of_rel r).size ≡ 8 = slot_size r (subst (λ (t : Rel). t.kind ≡ R_ARM_FUNCDESC_VALUE) here (sound.slot_kinds k r lt)) in
     let writable : is_writable_in o.segments r.site 8 ≡ true = subst (λ (n : ℕ). is_writable_in o.segments r.site n ≡ true) size in_place.writable in
-    let code_bytes : (j : ℕ) → j < 4 → image_of m.load_map image.0 o (r.site + j) ≡ slice_index (to_le_bytes w32 (placed m.load_map (file_word o.segments r.site))) j =
-    subst (λ (t : Rel). (j : ℕ) → j < 4 → image_of m.load_map image.0 o (t.site + j) ≡ slice_index (to_le_bytes w32 (placed m.load_map (file_word o.segments t.site))) j) here
+    let code_bytes : (j : ℕ) → j < 4 → image_of m.load_map image.0 o (r.site + j) ≡ slice_index (to_le_bytes w32 (placed m.load_map (function_of o r))) j =
+    subst (λ (t : Rel). (j : ℕ) → j < 4 → image_of m.load_map image.0 o (t.site + j) ≡ slice_index (to_le_bytes w32 (placed m.load_map (function_of o t))) j) here
     (λ j in'. image_code m.load_map image.0 o k j r sound lt in') in
     let got_bytes : (j : ℕ) → j < 4 → image_of m.load_map image.0 o (r.site + 4 + j) ≡ slice_index (to_le_bytes w32 (placed m.load_map o.got)) j =
     subst (λ (t : Rel). (j : ℕ) → j < 4 → image_of m.load_map image.0 o (t.site + 4 + j) ≡ slice_index (to_le_bytes w32 (placed m.load_map o.got)) j) here
     (λ j in'. image_got m.load_map image.0 o k j r sound lt in') in
-    let code' : code ≡ placed m.load_map (file_word o.segments r.site) =
-    is_code ∙ stored_is m.load_map m.load_map image.0 o m.image r.site (placed m.load_map (file_word o.segments r.site)) image.1
-    (spanned o.segments m.load_map r.site 8 r.site mapped writable (omega arith) (omega arith)) code_bytes (placed_small m.load_map (file_word o.segments r.site) ends) in
+    let code' : code ≡ placed m.load_map (function_of o r) =
+    is_code ∙ stored_is m.load_map m.load_map image.0 o m.image r.site (placed m.load_map (function_of o r)) image.1
+    (spanned o.segments m.load_map r.site 8 r.site mapped writable (omega arith) (omega arith)) code_bytes (placed_small m.load_map (function_of o r) ends) in
     let got' : got ≡ placed m.load_map o.got =
     is_got ∙ stored_is m.load_map m.load_map image.0 o m.image (r.site + 4) (placed m.load_map o.got) image.1
     (spanned o.segments m.load_map r.site 8 (r.site + 4) mapped writable (omega arith) (omega arith)) got_bytes (placed_small m.load_map o.got ends) in
     let pair_of : ℕ → ℕ → ℕ → Option SlotPair = λ a c g. let p : SlotPair = record { addr = a; code = c; got = g } in Some p in
     ap (λ a. pair_of a code got) is_addr
     ∙ ap (λ c. pair_of (placed m.load_map r.site) c got) code'
-    ∙ ap (λ g. pair_of (placed m.load_map r.site) (placed m.load_map (file_word o.segments r.site)) g) got'
+    ∙ ap (λ g. pair_of (placed m.load_map r.site) (placed m.load_map (function_of o r)) g) got'
     ∙ sym (slice_get-map (slot_pair_at m) o.jmprels k ∙ ap (option_map (slot_pair_at m)) at)

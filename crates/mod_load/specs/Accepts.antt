@@ -1,12 +1,13 @@
 -- When a load is accepted and what it adds, and why others are refused.
-use Rattle.std.specs.Prelude.{◌≡◌, ℕ, ◌<◌, ◌≤◌, List, length, position, Option, Some, None, IfSome, IsSomeAnd, MatchOption}
+use Rattle.std.specs.Prelude.{true, false, ◌≡◌, ℕ, ◌<◌, ◌≤◌, List, length, position, Option, Some, None, IfSome, IsSomeAnd, MatchOption}
 use Rattle.std.specs.FinMap.{get}
 use Rattle.std.specs.Str.{bytes_eq}
 use Rattle.fd_base.specs.declared.store.TheConstants.{MAX_FILE}
 use Rattle.fd_base.specs.Faults.{Rose}
 use Rattle.fd_base.specs.Fetched.{Files}
 use Rattle.elf_model.specs.declared.object.Object.{Object}
-use Rattle.elf_model.specs.Plain.{IsPlainObject}
+use Rattle.elf_model.specs.declared.refusal.ElfRefusal.{ElfRefusal}
+use Rattle.elf_model.specs.Object.{IsObject, refusal_of}
 use Rattle.elf_model.specs.Sound.{IsSound}
 use Rattle.placement.specs.declared.item.Item.{Item}
 use Rattle.placement.specs.Placed.{Placed, FailsAt}
@@ -15,9 +16,10 @@ use Rattle.mod_load.specs.declared.module.Added.{Added}
 use Rattle.mod_load.specs.declared.module.GroupPlan.{GroupPlan}
 use Rattle.mod_load.specs.declared.module.TheConstants.{MAX_MODULES}
 use Rattle.mod_load.specs.declared.error.LoadRefusal.{LoadRefusal}
-use Rattle.mod_load.specs.declared.error.LoadRefusal.TheVariants.{NotBuilt, NoFile, TooLong, TooManyModules, NoRoom}
+use Rattle.mod_load.specs.declared.error.LoadRefusal.TheVariants.{NotBuilt, Elf, NoFile, TooLong, TooManyModules, NoRoom}
 use Rattle.mod_load.specs.declared.error.LoadErr.{LoadErr}
 use Rattle.mod_load.specs.declared.error.LoadErr.TheVariants.{Refused, StoreFault, Memory}
+use Rattle.mod_load.specs.Built.{is_built}
 use Rattle.mod_load.specs.Plan.{low_of, high_of, listed_for}
 use Rattle.mod_load.specs.Image.{IsImage}
 use Rattle.mod_load.specs.Items.{items_of, load_map_of}
@@ -34,14 +36,21 @@ pub record IsNew (l : Loaded) (name : List ℕ) : Type 0 where
 
 -- ---- the file
 
--- the file of this name is this object
-abbrev pub FileIs : Option Files → List ℕ → Object → Type 0
-FileIs files name o = IfSome files (λ told. IsSomeAnd (get told name) (λ bytes. (length bytes ≤ MAX_FILE) × IsPlainObject bytes o))
+-- a file of this name is there, not too long, and this holds of its bytes
+abbrev pub FileWith : Option Files → List ℕ → (List ℕ → Type 0) → Type 0
+FileWith files name P = IfSome files (λ told. IsSomeAnd (get told name) (λ bytes. (length bytes ≤ MAX_FILE) × P bytes))
 
--- it is no object
-abbrev pub FileIsNone : Option Files → List ℕ → Type 0
-FileIsNone files name =
-    IfSome files (λ told. IsSomeAnd (get told name) (λ bytes. (length bytes ≤ MAX_FILE) × ((o : Object) → ¬ IsPlainObject bytes o)))
+-- the file is this object, and it is one that is loaded so far
+abbrev pub FileIs : Option Files → List ℕ → Object → Type 0
+FileIs files name o = FileWith files name (λ bytes. IsObject bytes o × (is_built o ≡ true))
+
+-- it is another object
+abbrev pub FileIsOther : Option Files → List ℕ → Type 0
+FileIsOther files name = FileWith files name (λ bytes. (o : Object) × IsObject bytes o × (is_built o ≡ false))
+
+-- it is no object, by this test
+abbrev pub FileIsRefused : Option Files → List ℕ → ElfRefusal → Type 0
+FileIsRefused files name r = FileWith files name (λ bytes. refusal_of bytes ≡ Some r)
 
 -- ---- what is added
 
@@ -78,7 +87,8 @@ IsRefused l files name TooManyModules = (number_of l.modules name ≡ None) × (
 IsRefused l files name (TooLong n) =
     IsNew l name × (n ≡ name) × IfSome files (λ told. IsSomeAnd (get told name) (λ bytes. MAX_FILE < length bytes))
 IsRefused l files name (NoFile n) = IsNew l name × (n ≡ name) × IfSome files (λ told. get told name ≡ None)
-IsRefused l files name (NotBuilt n) = IsNew l name × (n ≡ name) × FileIsNone files name
+IsRefused l files name (Elf n r) = IsNew l name × (n ≡ name) × FileIsRefused files name r
+IsRefused l files name (NotBuilt n) = IsNew l name × (n ≡ name) × FileIsOther files name
 IsRefused l files name (NoRoom i) =
     IsNew l name × ((o : Object) × FileIs files name o × FailsAt (low_of l.plan) (high_of l.plan) l.held (new_items l name o) i)
 

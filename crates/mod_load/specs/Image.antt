@@ -7,7 +7,8 @@ use Rattle.fd_base.specs.declared.map.MapEntry.{MapEntry}
 use Rattle.fd_base.specs.LoadMap.{address_of}
 use Rattle.elf_model.specs.declared.object.Object.{Object}
 use Rattle.elf_model.specs.declared.object.Rel.{Rel}
-use Rattle.elf_model.specs.Places.{file_byte, file_word}
+use Rattle.elf_model.specs.Places.{file_byte}
+use Rattle.mod_load.specs.Built.{function_of}
 use Rattle.mod_load.specs.declared.module.LinkWord.{LinkWord}
 use Rattle.mod_load.specs.declared.module.TheConstants.{RESOLVER, LOAD_MAPS, LOAD_MAP_SIZE}
 
@@ -27,11 +28,10 @@ got_words number got =
     ∷ record { addr = got + 8; value = load_map_at number }
     ∷ []
 
--- The two words of a slot on symbol 0 (R_ARM_FUNCDESC_VALUE): the placed function that the file's word names by its
--- link address, and the placed GOT.
+-- The two words of a slot (R_ARM_FUNCDESC_VALUE): the placed function that it leads to, and the placed GOT.
 abbrev pub slot_words : List MapEntry → Object → Rel → List LinkWord
 slot_words load_map o r =
-    record { addr = r.site; value = placed load_map (file_word o.segments r.site) }
+    record { addr = r.site; value = placed load_map (function_of o r) }
     ∷ record { addr = r.site + 4; value = placed load_map o.got }
     ∷ []
 
@@ -49,7 +49,7 @@ byte_over [] below v = below v
 byte_over (w ∷ ws) below v =
     if is_in_word w v then slice_index (to_le_bytes w32 w.value) (v - w.addr) else byte_over ws below v
 
--- The byte at a link address of a placed plain object: what loading writes there, or the file's byte or zero.
+-- The byte at a link address of a placed object: what loading writes there, or the file's byte or zero.
 abbrev pub image_of : List MapEntry → ℕ → Object → ℕ → ℕ
 image_of load_map number o v = byte_over (words_of load_map number o) (file_byte o.segments) v
 

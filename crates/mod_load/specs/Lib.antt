@@ -1,3 +1,4 @@
+pub mod Built
 pub mod Accepts
 pub mod Bounds
 pub mod Causes

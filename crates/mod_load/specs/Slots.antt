@@ -1,7 +1,7 @@
 -- What the slots of a module hold.
 use Rattle.std.specs.Prelude.{ℕ, List, map, slice_get, Option, option_and_then}
 use Rattle.elf_model.specs.declared.object.Rel.{Rel}
-use Rattle.elf_model.specs.Places.{file_word}
+use Rattle.mod_load.specs.Built.{function_of}
 use Rattle.mod_load.specs.declared.module.Module.{Module}
 use Rattle.mod_load.specs.declared.module.SlotPair.{SlotPair}
 use Rattle.mod_load.specs.Image.{placed}
@@ -10,7 +10,7 @@ use Rattle.mod_load.specs.Image.{placed}
 abbrev pub slot_pair_at : Module → Rel → SlotPair
 slot_pair_at m r = record {
   addr = placed m.load_map r.site;
-  code = placed m.load_map (file_word m.object.segments r.site);
+  code = placed m.load_map (function_of m.object r);
   got = placed m.load_map m.object.got;
 }
 

@@ -1,14 +1,17 @@
 //! Why a load is refused.
 
+use elf_model::ElfRefusal;
 use fd_base::Name;
 use std::alloc::AllocError;
 
 /// Why a module isn't loaded. Of several causes the first is given, in the order `TooManyModules`, `TooLong`,
-/// `NoFile`, `NotBuilt`, `NoRoom`.
+/// `NoFile`, `Elf`, `NotBuilt`, `NoRoom`.
 #[derive(Debug, Drop)]
 pub enum LoadRefusal {
-    /// The file of this name is no plain object. Other objects are not loaded yet.
+    /// The file of this name is an object of a kind that isn't loaded yet.
     NotBuilt(Name),
+    /// The file of this name is no object: the first test that it fails.
+    Elf(Name, ElfRefusal),
     /// There is no file of this name.
     NoFile(Name),
     /// The file of this name is longer than `MAX_FILE`.

@@ -2,6 +2,7 @@
 #![tactic(auto)]
 
 mod address;
+mod built;
 mod error;
 mod fetch;
 mod file;

@@ -6,7 +6,7 @@ ghost use Rattle.mod_load.specs.Image.{got_words, slot_words, words_of, byte_ove
 ghost use Rattle.mod_load.specs.Bounds.{EndsBelow, IsWordWhole, HasWords};
 
 use crate::address::placed;
-use crate::file::file_word;
+use crate::built::function_of;
 use crate::module::{LOAD_MAP_SIZE, LOAD_MAPS, LinkWord, MAX_MODULES, RESOLVER};
 use elf_model::{Object, Rel};
 use fd_base::{MapEntry, Memory, put_word};
@@ -43,7 +43,7 @@ fn slot_words(load_map: &[MapEntry], object: &Object, rel: &Rel) -> [LinkWord; 2
     [
         LinkWord {
             addr: rel.site,
-            value: placed(load_map, file_word(object.segments.as_slice(), rel.site)),
+            value: placed(load_map, function_of(object, rel)),
         },
         LinkWord {
             addr: rel.site + 4,
