@@ -1,0 +1,12 @@
+pub mod Loops
+pub mod Filtered
+pub mod Find
+pub mod Holders
+pub mod Places
+pub mod Meeting
+pub mod Placed
+pub mod Ranges
+pub mod Filling
+pub mod Words
+pub mod Plainness
+pub mod Exact

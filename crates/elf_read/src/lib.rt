@@ -1,9 +1,22 @@
 //! The reader of executables and shared objects. Bytes are accepted exactly where they are an object.
 #![tactic(auto)]
 
+mod dynamic;
 mod error;
+mod got;
+mod header;
+mod held;
 mod object;
+mod plain;
+mod refuse;
+mod relocations;
+mod segments;
+mod sites;
+mod tables;
 
 pub use elf_model::{ElfKind, ElfRefusal};
 pub use error::ReadErr;
 pub use object::read_object;
+
+#[cfg(test)]
+mod tests;
