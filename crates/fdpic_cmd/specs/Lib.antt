@@ -7,3 +7,4 @@ pub mod Ended
 pub mod Answers
 pub mod Lines
 pub mod Exits
+pub mod Listing

@@ -6,6 +6,7 @@ mod bind;
 mod command;
 mod entry;
 mod line;
+mod listing;
 mod status;
 #[cfg(test)]
 mod tests;

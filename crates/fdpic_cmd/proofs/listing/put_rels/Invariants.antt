@@ -1,0 +1,6 @@
+use Rattle.std.proofs.Common.{◌≡◌, ◌++◌, drop}
+use Rattle.fdpic_cmd.specs.Listing.{numbered, rel_line}
+use Rattle.fdpic_cmd.proofs.listing.put_rels.Given as goal
+
+abbrev pub invariant-loop-i : goal.invariant-loop-i
+invariant-loop-i l = l.out ++ numbered (rel_line l.table) l.i (drop l.i l.rels) ≡ l.fn.out ++ numbered (rel_line l.table) 0 l.rels

@@ -1,0 +1,307 @@
+//! The text of `show F`: what an object holds.
+
+ghost use Rattle.std.specs.Prelude.{◌≡◌, ◌++◌, ◌<◌, ◌^◌, IfOk, OnOk, length, codes, is_ok, if◌then◌else◌, decimal, All, [], unwrap_or};
+ghost use Rattle.std.specs.List.{flat_map};
+ghost use Rattle.elf_model.specs.Sound.{IsSized, IsSound};
+ghost use Rattle.fd_base.specs.Texts.{shown};
+ghost use Rattle.fdpic_cmd.specs.Listing as spec;
+
+use elf_model::constants::*;
+use elf_model::{Inits, Kind, Object, Place, Rel, Segment, Symbol};
+use fd_base::{Bytes, Memory, Name, put_dec, put_hex8, put_shown};
+use std::alloc::Global;
+
+/// Puts a word behind a space.
+fn put_word(out: &mut Bytes, word: &[u8]) -> Result<(), Memory>
+    ensures { OnOk result (out.new ≡ out.old ++ spec.word_field word.now) }
+{
+    out.push(b' ')?;
+    out.extend_from_slice(word)
+}
+
+/// Puts a number behind a space.
+fn put_number(out: &mut Bytes, n: u32) -> Result<(), Memory>
+    ensures { OnOk result (out.new ≡ out.old ++ spec.decimal_field n) }
+{
+    out.push(b' ')?;
+    put_dec(out, n)
+}
+
+/// Puts the number of an item behind a space.
+fn put_index(out: &mut Bytes, i: usize) -> Result<(), Memory>
+    ensures { OnOk result (out.new ≡ out.old ++ spec.decimal_field i) }
+{
+    let mut buffer = itoa::Buffer::new();
+    out.push(b' ')?;
+    out.extend_from_slice(buffer.format(i).as_bytes())
+}
+
+/// Puts `0x` and eight digits behind a space.
+fn put_hex(out: &mut Bytes, n: u32) -> Result<(), Memory>
+    ensures { OnOk result (out.new ≡ out.old ++ spec.hex_field n) }
+{
+    out.push(b' ')?;
+    put_hex8(out, n)
+}
+
+#[tactic(auto, unfolding(crate::specs::Listing::object_line))]
+fn put_object_line(out: &mut Bytes, o: &Object) -> Result<(), Memory>
+    ensures { OnOk result (out.new ≡ out.old ++ spec.object_line o.entry.now) }
+{
+    out.extend_from_slice(b"object ")?;
+    out.extend_from_slice(match o.kind {
+        Kind::Exec => b"exec".as_slice(),
+        Kind::Dyn => b"dyn".as_slice(),
+    })?;
+    out.extend_from_slice(b" entry")?;
+    put_hex(out, o.entry)?;
+    out.extend_from_slice(b" got")?;
+    put_hex(out, o.got)?;
+    out.push(b'\n')
+}
+
+#[tactic(auto, unfolding(crate::specs::Listing::segment_line))]
+fn put_segment_line(out: &mut Bytes, i: usize, s: &Segment) -> Result<(), Memory>
+    requires { IsSized s.now }
+    ensures { OnOk result (out.new ≡ out.old ++ spec.segment_line i s.now) }
+{
+    out.extend_from_slice(b"segment")?;
+    put_index(out, i)?;
+    put_hex(out, s.vaddr)?;
+    put_hex(out, s.filled.len() as u32)?;
+    put_hex(out, s.memsz)?;
+    put_number(out, s.flags)?;
+    put_number(out, s.align)?;
+    out.push(b'\n')
+}
+
+fn put_segments(out: &mut Bytes, segments: &[Segment]) -> Result<(), Memory>
+    requires { All IsSized segments.now }
+    ensures { OnOk result (out.new ≡ out.old ++ spec.numbered spec.segment_line 0 segments.now) }
+{
+    for (i, segment) in segments.iter().enumerate() {
+        put_segment_line(out, i, segment)?;
+    }
+    Ok(())
+}
+
+#[tactic(auto, unfolding(crate::specs::Listing::needed_line))]
+fn put_needed_line(out: &mut Bytes, name: &Name) -> Result<(), Memory>
+    ensures { OnOk result (out.new ≡ out.old ++ spec.needed_line name.now) }
+{
+    out.extend_from_slice(b"needed ")?;
+    put_shown(out, name)?;
+    out.push(b'\n')
+}
+
+fn put_needed(out: &mut Bytes, names: &[Name]) -> Result<(), Memory>
+    ensures { OnOk result (out.new ≡ out.old ++ flat_map spec.needed_line names.now) }
+{
+    for name in names {
+        put_needed_line(out, name)?;
+    }
+    Ok(())
+}
+
+fn put_soname(out: &mut Bytes, soname: &Option<Name>) -> Result<(), Memory>
+    ensures { OnOk result (out.new ≡ out.old ++ spec.soname_line soname.now) }
+{
+    match soname {
+        None => Ok(()),
+        Some(name) => {
+            out.extend_from_slice(b"soname ")?;
+            put_shown(out, name)?;
+            out.push(b'\n')
+        }
+    }
+}
+
+/// Puts a name behind a space, a dash where there is none.
+fn put_name(out: &mut Bytes, name: &Option<Name>) -> Result<(), Memory>
+    ensures { OnOk result (out.new ≡ out.old ++ spec.word_field (spec.name_word name.now)) }
+{
+    match name {
+        None => put_word(out, b"-"),
+        Some(name) => {
+            out.push(b' ')?;
+            put_shown(out, name)
+        }
+    }
+}
+
+#[tactic(auto, unfolding(crate::specs::Listing::binding_word))]
+fn put_binding(out: &mut Bytes, binding: u8) -> Result<(), Memory>
+    ensures { OnOk result (out.new ≡ out.old ++ spec.word_field (spec.binding_word binding)) }
+{
+    match binding {
+        STB_LOCAL => put_word(out, b"local"),
+        STB_GLOBAL => put_word(out, b"global"),
+        STB_WEAK => put_word(out, b"weak"),
+        _ => put_number(out, u32::from(binding)),
+    }
+}
+
+#[tactic(auto, unfolding(crate::specs::Listing::type_word))]
+fn put_type(out: &mut Bytes, kind: u8) -> Result<(), Memory>
+    ensures { OnOk result (out.new ≡ out.old ++ spec.word_field (spec.type_word kind)) }
+{
+    match kind {
+        STT_NOTYPE => put_word(out, b"notype"),
+        STT_OBJECT => put_word(out, b"object"),
+        STT_FUNC => put_word(out, b"func"),
+        STT_SECTION => put_word(out, b"section"),
+        STT_FILE => put_word(out, b"file"),
+        _ => put_number(out, u32::from(kind)),
+    }
+}
+
+#[tactic(auto, unfolding(crate::specs::Listing::visibility_word))]
+fn put_visibility(out: &mut Bytes, visibility: u8) -> Result<(), Memory>
+    ensures { OnOk result (out.new ≡ out.old ++ spec.word_field (spec.visibility_word visibility)) }
+{
+    match visibility {
+        STV_DEFAULT => put_word(out, b"default"),
+        STV_INTERNAL => put_word(out, b"internal"),
+        STV_HIDDEN => put_word(out, b"hidden"),
+        _ => put_word(out, b"protected"),
+    }
+}
+
+fn put_place(out: &mut Bytes, place: Place) -> Result<(), Memory>
+    ensures { OnOk result (out.new ≡ out.old ++ spec.word_field (spec.place_word place)) }
+{
+    match place {
+        Place::Undefined => put_word(out, b"undef"),
+        Place::Absolute => put_word(out, b"abs"),
+        Place::Here => put_word(out, b"here"),
+        Place::Common => put_word(out, b"common"),
+        Place::Dropped => put_word(out, b"dropped"),
+        Place::Section(n) => {
+            put_word(out, b"section")?;
+            put_number(out, n)
+        }
+    }
+}
+
+#[tactic(auto, unfolding(crate::specs::Listing::symbol_line))]
+fn put_symbol_line(out: &mut Bytes, i: usize, s: &Symbol) -> Result<(), Memory>
+    ensures { OnOk result (out.new ≡ out.old ++ spec.symbol_line i s.now) }
+{
+    out.extend_from_slice(b"symbol")?;
+    put_index(out, i)?;
+    put_name(out, &s.name)?;
+    put_binding(out, s.binding)?;
+    put_type(out, s.kind)?;
+    put_visibility(out, s.visibility)?;
+    put_place(out, s.place)?;
+    put_hex(out, s.value)?;
+    put_number(out, s.size)?;
+    out.push(b'\n')
+}
+
+fn put_symbols(out: &mut Bytes, symbols: &[Symbol]) -> Result<(), Memory>
+    ensures { OnOk result (out.new ≡ out.old ++ spec.numbered spec.symbol_line 0 symbols.now) }
+{
+    for (i, symbol) in symbols.iter().enumerate() {
+        put_symbol_line(out, i, symbol)?;
+    }
+    Ok(())
+}
+
+#[tactic(auto, unfolding(crate::specs::Listing::rel_line))]
+fn put_rel_line(out: &mut Bytes, table: &[u8], i: usize, r: &Rel) -> Result<(), Memory>
+    ensures { OnOk result (out.new ≡ out.old ++ spec.rel_line table.now i r.now) }
+{
+    out.extend_from_slice(table)?;
+    put_index(out, i)?;
+    put_hex(out, r.site)?;
+    put_number(out, u32::from(r.kind))?;
+    put_number(out, r.symbol)?;
+    out.push(b'\n')
+}
+
+/// Puts the lines of a table of relocations, each beginning with a word.
+fn put_rels(out: &mut Bytes, table: &[u8], rels: &[Rel]) -> Result<(), Memory>
+    ensures { OnOk result (out.new ≡ out.old ++ spec.numbered (spec.rel_line table.now) 0 rels.now) }
+{
+    for (i, rel) in rels.iter().enumerate() {
+        put_rel_line(out, table, i, rel)?;
+    }
+    Ok(())
+}
+
+#[tactic(auto, unfolding(crate::specs::Listing::fixup_line))]
+fn put_fixup_line(out: &mut Bytes, i: usize, site: u32) -> Result<(), Memory>
+    ensures { OnOk result (out.new ≡ out.old ++ spec.fixup_line i site) }
+{
+    out.extend_from_slice(b"fixup")?;
+    put_index(out, i)?;
+    put_hex(out, site)?;
+    out.push(b'\n')
+}
+
+fn put_fixups(out: &mut Bytes, sites: &[u32]) -> Result<(), Memory>
+    ensures { OnOk result (out.new ≡ out.old ++ spec.numbered spec.fixup_line 0 sites.now) }
+{
+    for (i, site) in sites.iter().enumerate() {
+        put_fixup_line(out, i, *site)?;
+    }
+    Ok(())
+}
+
+/// Puts a line where it holds.
+fn put_where(out: &mut Bytes, holds: bool, line: &[u8]) -> Result<(), Memory>
+    ensures { OnOk result (out.new ≡ out.old ++ spec.line_where holds line.now) }
+{
+    if holds {
+        out.extend_from_slice(line)
+    } else {
+        Ok(())
+    }
+}
+
+fn has_inits(inits: &Inits) -> bool
+    ensures { result ≡ spec.has_inits inits.now }
+{
+    inits.init.is_some()
+        || inits.fini.is_some()
+        || inits.init_array.is_some()
+        || inits.fini_array.is_some()
+}
+
+fn put_flags(out: &mut Bytes, o: &Object) -> Result<(), Memory>
+    ensures { OnOk result (out.new ≡ out.old ++ spec.flag_lines o.entry.now) }
+{
+    put_where(out, o.symbolic, b"flag symbolic\n")?;
+    put_where(out, o.now, b"flag now\n")?;
+    put_where(out, has_inits(&o.inits), b"flag init\n")
+}
+
+/// The fixups, none where there is no list.
+fn fixups(o: &Object) -> &[u32]
+    ensures { result.now ≡ unwrap_or o.entry.now.fixups [] }
+{
+    match &o.fixups {
+        Some(sites) => sites.as_slice(),
+        None => &[],
+    }
+}
+
+/// What an object holds: a line for the object, then for each segment, needed name, the soname, each symbol,
+/// relocation, slot and fixup, and for each flag that is set.
+pub fn object_listing(alloc: Global, o: &Object) -> Result<Bytes, Memory>
+    requires { IsSound o.now }
+    ensures { IfOk result (λ text. text ≡ spec.object_listing o.entry.now) }
+{
+    let mut text = Bytes::new(alloc);
+    put_object_line(&mut text, o)?;
+    put_segments(&mut text, o.segments.as_slice())?;
+    put_needed(&mut text, o.needed.as_slice())?;
+    put_soname(&mut text, &o.soname)?;
+    put_symbols(&mut text, o.symbols.as_slice())?;
+    put_rels(&mut text, b"rel", o.rels.as_slice())?;
+    put_rels(&mut text, b"jmprel", o.jmprels.as_slice())?;
+    put_fixups(&mut text, fixups(o))?;
+    put_flags(&mut text, o)?;
+    Ok(text)
+}
