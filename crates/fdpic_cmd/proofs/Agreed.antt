@@ -1,11 +1,18 @@
 -- Two outcomes of one command have one status and one text.
-use Rattle.std.proofs.Common.{◌≡◌, ℕ, List, sym, ap, ◌∙◌, inl, inr, ◌⊎◌}
+use Rattle.std.proofs.Common.{◌≡◌, ℕ, List, length, Option, Some, None, Bool, true, false, nat_lt, MatchBool, sym, ap, ◌∙◌, inl, inr, ◌⊎◌}
 use Rattle.fd_base.specs.Fetched.{Files}
 use Rattle.mod_load.proofs.Determined.{loads_are_determined}
 use Rattle.fdpic_cmd.specs.declared.command.Command.{Command}
-use Rattle.fdpic_cmd.specs.declared.command.Command.TheVariants.{Bind}
+use Rattle.fdpic_cmd.specs.declared.command.Command.TheVariants.{Bind, Code, Show}
 use Rattle.fdpic_cmd.specs.Outcome.{Outcome, writes, refuses}
 use Rattle.fdpic_cmd.specs.Bind.{BindMeans, IsBound, IsUnbound, plan_of, refusal_of, slot_listing}
+use Rattle.fdpic_cmd.specs.declared.status.Refusal.TheVariants.{TooLong}
+use Rattle.elf_model.specs.declared.object.Object.{Object}
+use Rattle.std.specs.FinMap.{get}
+use Rattle.fdpic_cmd.specs.Files.{OnFound}
+use Rattle.fdpic_cmd.specs.Listing.{object_listing}
+use Rattle.fdpic_cmd.specs.Code.{code_listing}
+use Rattle.fdpic_cmd.specs.Show.{ListMeans, listed}
 use Rattle.fdpic_cmd.specs.Meaning.{Means}
 
 -- one status and one text
@@ -29,5 +36,20 @@ bind_agrees file text data' told a b (inr p) (inr q) =
     let same = loads_are_determined.same_refusal (plan_of file text data') told file p.refusal q.refusal p.refused q.refused in
     agree_same a b (refuses (refusal_of q.refusal)) (p.says ∙ ap (λ r. refuses (refusal_of r)) same) q.says
 
+agree_found : (name : List ℕ) (means : List ℕ → Outcome → Type 0) → ((bytes : List ℕ) (a b : Outcome) → means bytes a → means bytes b → Agree a b) → (f : Option (List ℕ)) (a b : Outcome) → OnFound name means f a → OnFound name means f b → Agree a b
+agree_found name means agree None a b p q = agree_same a b _ p q
+agree_found name means agree (Some bytes) a b p q =
+    elim (nat_lt 4194304 (length bytes)) as (λ c. MatchBool c (a ≡ refuses (TooLong name)) (means bytes a) → MatchBool c (b ≡ refuses (TooLong name)) (means bytes b) → Agree a b) [
+      | true ↦ λ p q. agree_same a b _ p q
+      | false ↦ λ p q. agree bytes a b p q
+    ] p q
+
+-- a file has one listing, or one refusal
+list_agrees : (listing : Object → List ℕ) (file : List ℕ) (told : Files) (a b : Outcome) → ListMeans listing file told a → ListMeans listing file told b → Agree a b
+list_agrees listing file told a b p q =
+    agree_found file (λ bytes o. o ≡ listed listing file bytes) (λ bytes a b p q. agree_same a b (listed listing file bytes) p q) (get told file) a b p q
+
 pub agrees : (command : Command) (told : Files) (a b : Outcome) → Means command told a → Means command told b → Agree a b
 agrees (Bind file text data') told a b p q = bind_agrees file text data' told a b p q
+agrees (Code file) told a b p q = list_agrees code_listing file told a b p q
+agrees (Show file) told a b p q = list_agrees object_listing file told a b p q

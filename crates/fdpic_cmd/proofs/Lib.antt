@@ -3,3 +3,6 @@ pub mod Agreed
 pub mod Answered
 pub mod Claims
 pub mod Listed
+pub mod Found
+pub mod Opened
+pub mod Coded

@@ -6,12 +6,12 @@ use Rattle.mod_load.specs.declared.plan.MemPlan.{MemPlan}
 use Rattle.mod_load.specs.declared.module.Module.{Module}
 use Rattle.mod_load.specs.declared.module.SlotPair.{SlotPair}
 use Rattle.mod_load.specs.declared.error.LoadRefusal.{LoadRefusal}
-use Rattle.mod_load.specs.declared.error.LoadRefusal.TheVariants.{NotBuilt, NoFile, TooLong, TooManyModules, NoRoom}
+use Rattle.mod_load.specs.declared.error.LoadRefusal.TheVariants.{NotBuilt, Elf, NoFile, TooLong, TooManyModules, NoRoom}
 use Rattle.mod_load.specs.Loaded.{Loaded}
 use Rattle.mod_load.specs.Loading.{IsLoaded, IsLoadRefused}
 use Rattle.mod_load.specs.Slots.{slot_pairs_of}
 use Rattle.fdpic_cmd.specs.declared.status.Refusal.{Refusal}
-use Rattle.fdpic_cmd.specs.declared.status.Refusal.TheVariants.{NoFile as NoSuchFile, TooLong as FileTooLong, Load}
+use Rattle.fdpic_cmd.specs.declared.status.Refusal.TheVariants.{Elf as NoObject, NoFile as NoSuchFile, TooLong as FileTooLong, Load}
 use Rattle.fdpic_cmd.specs.Outcome.{Outcome, writes, refuses}
 
 -- the memory plan of a command that names no job: the two addresses are listed for the file
@@ -51,10 +51,11 @@ slot_listing modules = listing_from 0 modules
 
 -- ---- the outcome
 
--- Why loading is refused, as the command says it. That the file which the words name isn't there, or is too long, is
--- said of the file.
+-- Why loading is refused, as the command says it. That the file which the words name isn't there, is too long or is no
+-- object, is said of the file.
 abbrev pub refusal_of : LoadRefusal → Refusal
 refusal_of (NoFile name) = NoSuchFile name
+refusal_of (Elf name r) = NoObject name r
 refusal_of (TooLong name) = FileTooLong name
 refusal_of (NotBuilt name) = Load (NotBuilt name)
 refusal_of TooManyModules = Load TooManyModules

@@ -1,10 +1,10 @@
 -- The listed forms of words.
-use Rattle.std.specs.Prelude.{ℕ, List, [], ◌∷◌, Option, Some, None, is_none, if◌then◌else◌, codes}
+use Rattle.std.specs.Prelude.{ℕ, List, [], ◌∷◌, Option, Some, None, is_none, option_map, if◌then◌else◌, codes}
 use Rattle.std.specs.Str.{bytes_eq}
 use Rattle.fd_base.specs.Name.{name_refusal_of}
 use Rattle.fd_base.specs.Texts.{number_of}
 use Rattle.fdpic_cmd.specs.declared.command.Command.{Command}
-use Rattle.fdpic_cmd.specs.declared.command.Command.TheVariants.{Bind}
+use Rattle.fdpic_cmd.specs.declared.command.Command.TheVariants.{Bind, Code, Show}
 
 -- a word as the name of a file, where it is one
 unfoldable pub name_of : List ℕ → Option (List ℕ)
@@ -21,7 +21,25 @@ abbrev pub bind_of : List (List ℕ) → Option Command
 bind_of (file ∷ text ∷ data' ∷ []) = bind_with (name_of file) (number_of text) (number_of data')
 bind_of _ = None
 
+-- one file
+abbrev pub file_of : List (List ℕ) → Option (List ℕ)
+file_of [] = None
+file_of (file ∷ []) = name_of file
+file_of (file ∷ other ∷ rest) = None
+
+-- code F
+abbrev pub code_of : List (List ℕ) → Option Command
+code_of words = option_map Code (file_of words)
+
+-- show F
+abbrev pub show_of : List (List ℕ) → Option Command
+show_of words = option_map Show (file_of words)
+
 -- The command of the words, by the first of them. None where they have no listed form.
 abbrev pub command_of : List (List ℕ) → Option Command
 command_of [] = None
-command_of (verb ∷ rest) = if bytes_eq verb (codes "bind") then bind_of rest else None
+command_of (verb ∷ rest) =
+    if bytes_eq verb (codes "bind") then bind_of rest
+    else if bytes_eq verb (codes "code") then code_of rest
+    else if bytes_eq verb (codes "show") then show_of rest
+    else None

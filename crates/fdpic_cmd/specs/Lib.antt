@@ -8,3 +8,6 @@ pub mod Answers
 pub mod Lines
 pub mod Exits
 pub mod Listing
+pub mod Files
+pub mod Show
+pub mod Code

@@ -1,23 +1,57 @@
 -- The line of a status on err.
 use Rattle.std.specs.Prelude.{ℕ, List, [], ◌∷◌, ◌++◌, codes, decimal}
 use Rattle.fd_base.specs.Texts.{shown}
+use Rattle.elf_model.specs.declared.refusal.ElfKind.{ElfKind}
+use Rattle.elf_model.specs.declared.refusal.ElfKind.TheVariants.{Short, Ident, Machine, FileType, Header, SegmentRange, SegmentOverlap, TooMany, DynRange, Rela, NoGot, NoCount, Table, NameRange, Tls, Thumb, TextRel, RelocType, SiteRange, SiteOverlap, Group, FunctionPlace}
+use Rattle.elf_model.specs.declared.refusal.ElfRefusal.{ElfRefusal}
 use Rattle.fdpic_cmd.specs.declared.status.Status.{Status}
 use Rattle.fdpic_cmd.specs.declared.status.Status.TheVariants.{Done, Memory, Words, StoreFault, SinkFault, Refused}
 use Rattle.fdpic_cmd.specs.declared.status.Refusal.{Refusal}
-use Rattle.fdpic_cmd.specs.declared.status.Refusal.TheVariants.{NoFile as NoSuchFile, TooLong as FileTooLong, Load}
+use Rattle.fdpic_cmd.specs.declared.status.Refusal.TheVariants.{Elf as NoObject, NoFile as NoSuchFile, TooLong as FileTooLong, Load}
 use Rattle.mod_load.specs.declared.error.LoadRefusal.{LoadRefusal}
-use Rattle.mod_load.specs.declared.error.LoadRefusal.TheVariants.{NotBuilt, NoFile, TooLong, TooManyModules, NoRoom}
+use Rattle.mod_load.specs.declared.error.LoadRefusal.TheVariants.{NotBuilt, Elf, NoFile, TooLong, TooManyModules, NoRoom}
+
+-- the word of a kind
+abbrev pub kind_word : ElfKind → List ℕ
+kind_word Short = codes "Short"
+kind_word Ident = codes "Ident"
+kind_word Machine = codes "Machine"
+kind_word FileType = codes "FileType"
+kind_word Header = codes "Header"
+kind_word SegmentRange = codes "SegmentRange"
+kind_word SegmentOverlap = codes "SegmentOverlap"
+kind_word TooMany = codes "TooMany"
+kind_word DynRange = codes "DynRange"
+kind_word Rela = codes "Rela"
+kind_word NoGot = codes "NoGot"
+kind_word NoCount = codes "NoCount"
+kind_word Table = codes "Table"
+kind_word NameRange = codes "NameRange"
+kind_word Tls = codes "Tls"
+kind_word Thumb = codes "Thumb"
+kind_word TextRel = codes "TextRel"
+kind_word RelocType = codes "RelocType"
+kind_word SiteRange = codes "SiteRange"
+kind_word SiteOverlap = codes "SiteOverlap"
+kind_word Group = codes "Group"
+kind_word FunctionPlace = codes "FunctionPlace"
+
+-- a failing test: the word of its kind, and the offset in decimal
+unfoldable pub test_text : ElfRefusal → List ℕ
+test_text e = kind_word e.kind ++ codes " at " ++ decimal e.at
 
 -- what is said of a refused load: the word of its kind, and its fields in order
 unfoldable pub load_text : LoadRefusal → List ℕ
 load_text (NotBuilt name) = codes "NotBuilt " ++ shown name
 load_text (NoFile name) = codes "NoFile " ++ shown name
 load_text (TooLong name) = codes "TooLong " ++ shown name
+load_text (Elf name e) = codes "Elf " ++ shown name ++ codes " " ++ test_text e
 load_text TooManyModules = codes "TooManyModules"
 load_text (NoRoom item) = codes "NoRoom " ++ decimal item
 
 -- what is said of a refusal
 unfoldable pub refusal_text : Refusal → List ℕ
+refusal_text (NoObject name e) = shown name ++ codes " elf " ++ test_text e
 refusal_text (NoSuchFile name) = codes "no file " ++ shown name
 refusal_text (FileTooLong name) = codes "too long " ++ shown name
 refusal_text (Load r) = codes "load " ++ load_text r

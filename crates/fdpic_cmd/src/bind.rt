@@ -37,6 +37,7 @@ fn refusal_of(refusal: LoadRefusal) -> Refusal
 {
     match refusal {
         LoadRefusal::NoFile(name) => Refusal::NoFile(name),
+        LoadRefusal::Elf(name, refusal) => Refusal::Elf(name, refusal),
         LoadRefusal::TooLong(name) => Refusal::TooLong(name),
         LoadRefusal::NotBuilt(name) => Refusal::Load(LoadRefusal::NotBuilt(name)),
         LoadRefusal::TooManyModules => Refusal::Load(LoadRefusal::TooManyModules),

@@ -15,6 +15,7 @@ ghost use Rattle.fdpic_cmd.specs.Outcome.{Outcome, refuses};
 use crate::bind::bind;
 use crate::command::{Command, command_of};
 use crate::line::line;
+use crate::show::{code, show};
 use crate::status::{Failure, Status};
 use fd_base::{Bytes, Sink, SinkErr, Store};
 use std::alloc::Global;
@@ -71,6 +72,14 @@ fn perform<S: Store, O: Sink>(
     match command {
         Command::Bind { file, text, data } => {
             let text = bind(alloc, store, file, *text, *data);
+            say(out, text)
+        }
+        Command::Code { file } => {
+            let text = code(alloc, store, file);
+            say(out, text)
+        }
+        Command::Show { file } => {
+            let text = show(alloc, store, file);
             say(out, text)
         }
     }

@@ -5,9 +5,50 @@ ghost use Rattle.fd_base.specs.Texts.{shown};
 ghost use Rattle.fdpic_cmd.specs.Lines as spec;
 
 use crate::status::{Refusal, Status};
+use elf_model::{ElfKind, ElfRefusal};
 use fd_base::{Bytes, Memory, Name, put_dec, put_shown};
 use mod_load::LoadRefusal;
 use std::alloc::Global;
+
+/// The word of a kind.
+fn kind_word(kind: ElfKind) -> &'static [u8]
+    ensures { result.now ≡ spec.kind_word kind }
+{
+    match kind {
+        ElfKind::Short => b"Short",
+        ElfKind::Ident => b"Ident",
+        ElfKind::Machine => b"Machine",
+        ElfKind::FileType => b"FileType",
+        ElfKind::Header => b"Header",
+        ElfKind::SegmentRange => b"SegmentRange",
+        ElfKind::SegmentOverlap => b"SegmentOverlap",
+        ElfKind::TooMany => b"TooMany",
+        ElfKind::DynRange => b"DynRange",
+        ElfKind::Rela => b"Rela",
+        ElfKind::NoGot => b"NoGot",
+        ElfKind::NoCount => b"NoCount",
+        ElfKind::Table => b"Table",
+        ElfKind::NameRange => b"NameRange",
+        ElfKind::Tls => b"Tls",
+        ElfKind::Thumb => b"Thumb",
+        ElfKind::TextRel => b"TextRel",
+        ElfKind::RelocType => b"RelocType",
+        ElfKind::SiteRange => b"SiteRange",
+        ElfKind::SiteOverlap => b"SiteOverlap",
+        ElfKind::Group => b"Group",
+        ElfKind::FunctionPlace => b"FunctionPlace",
+    }
+}
+
+/// Puts a failing test.
+#[tactic(auto, unfolding(crate::specs::Lines::test_text))]
+fn put_test(out: &mut Bytes, refusal: &ElfRefusal) -> Result<(), Memory>
+    ensures { OnOk result (out.new ≡ out.old ++ spec.test_text refusal.now) }
+{
+    out.extend_from_slice(kind_word(refusal.kind))?;
+    out.extend_from_slice(b" at ")?;
+    put_dec(out, refusal.at)
+}
 
 /// Puts a word and a name.
 fn put_named(out: &mut Bytes, word: &[u8], name: &Name) -> Result<(), Memory>
@@ -24,6 +65,11 @@ fn put_load(out: &mut Bytes, refusal: &LoadRefusal) -> Result<(), Memory>
 {
     match refusal {
         LoadRefusal::NotBuilt(name) => put_named(out, b"NotBuilt ", name),
+        LoadRefusal::Elf(name, test) => {
+            put_named(out, b"Elf ", name)?;
+            out.push(b' ')?;
+            put_test(out, test)
+        }
         LoadRefusal::NoFile(name) => put_named(out, b"NoFile ", name),
         LoadRefusal::TooLong(name) => put_named(out, b"TooLong ", name),
         LoadRefusal::TooManyModules => out.extend_from_slice(b"TooManyModules"),
@@ -40,6 +86,11 @@ fn put_refusal(out: &mut Bytes, refusal: &Refusal) -> Result<(), Memory>
     ensures { OnOk result (out.new ≡ out.old ++ spec.refusal_text refusal.now) }
 {
     match refusal {
+        Refusal::Elf(name, test) => {
+            put_shown(out, name)?;
+            out.extend_from_slice(b" elf ")?;
+            put_test(out, test)
+        }
         Refusal::NoFile(name) => put_named(out, b"no file ", name),
         Refusal::TooLong(name) => put_named(out, b"too long ", name),
         Refusal::Load(refusal) => {

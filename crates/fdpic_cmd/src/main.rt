@@ -3,10 +3,13 @@
 #![tactic(auto)]
 
 mod bind;
+mod code;
 mod command;
 mod entry;
+mod files;
 mod line;
 mod listing;
+mod show;
 mod status;
 #[cfg(test)]
 mod tests;

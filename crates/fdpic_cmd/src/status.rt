@@ -1,5 +1,6 @@
 //! How the program ends.
 
+use elf_model::ElfRefusal;
 use fd_base::Name;
 use mod_load::LoadRefusal;
 use std::alloc::AllocError;
@@ -7,6 +8,8 @@ use std::alloc::AllocError;
 /// Why a command is refused.
 #[derive(Debug, Drop)]
 pub enum Refusal {
+    /// The file of this name, which the words name, is no object: the first test that it fails.
+    Elf(Name, ElfRefusal),
     /// There is no file of this name, which the words name.
     NoFile(Name),
     /// The file of this name, which the words name, is longer than `MAX_FILE`.

@@ -16,7 +16,6 @@ use fd_base::{FetchErr, Name, Store};
 use std::alloc::Global;
 
 /// The object of these bytes, which are those of the file of this name, where it is one that is loaded so far.
-#[tactic(auto, using(crate::proofs::Filled::slots_below))]
 fn built(alloc: Global, name: &Name, bytes: &[u8]) -> Result<Object, LoadErr>
     requires { length bytes.now ≤ MAX_FILE }
     ensures object { IfOk result (λ o. IsObject bytes.now o × (is_built o ≡ true)) }

@@ -1,0 +1,48 @@
+//! The files that words name, and the objects that they are.
+
+ghost use Rattle.std.specs.Prelude.{◌≡◌, ◌≤◌, IfOk, IfErr, IfSome, length};
+ghost use Rattle.elf_model.specs.Sound.{IsSound};
+ghost use Rattle.fd_base.specs.declared.store.TheConstants.{MAX_FILE};
+ghost use Rattle.fdpic_cmd.specs.Files.{Fetched};
+ghost use Rattle.fdpic_cmd.specs.Show.{Opens};
+
+use crate::status::{Failure, Refusal};
+use elf_model::Object;
+use elf_read::{ReadErr, read_object};
+use fd_base::{Bytes, FetchErr, Name, Store};
+use std::alloc::Global;
+
+/// The bytes of a file.
+fn fetched<S: Store>(alloc: Global, store: &mut S, name: &Name) -> Result<Bytes, Failure>
+    ensures answer { Fetched (S.files store.old) name.now (S.faults store.old) (S.faults store.new) result }
+    ensures short { IfOk result (λ bytes. length bytes ≤ MAX_FILE) }
+    ensures files { S.files store.new ≡ S.files store.old }
+    ensures count { S.faults store.old ≤ S.faults store.new }
+{
+    match store.fetch(alloc, name) {
+        Err(FetchErr::Failed) => Err(Failure::StoreFault),
+        Err(FetchErr::TooLong(_)) => Err(Failure::Refused(Refusal::TooLong(name.copy(alloc)?))),
+        Err(FetchErr::Memory) => Err(Failure::Memory),
+        Ok(None) => Err(Failure::Refused(Refusal::NoFile(name.copy(alloc)?))),
+        Ok(Some(bytes)) => Ok(bytes),
+    }
+}
+
+/// The object that a file is.
+#[tactic(auto, using(crate::proofs::Opened::opened, crate::proofs::Opened::no_object, crate::proofs::Opened::no_file))]
+pub fn open<S: Store>(alloc: Global, store: &mut S, name: &Name) -> Result<Object, Failure>
+    ensures answer { Opens (S.files store.old) name.now (S.faults store.old) (S.faults store.new) result }
+    ensures sound { IfOk result IsSound }
+    ensures files { S.files store.new ≡ S.files store.old }
+    ensures count { S.faults store.old ≤ S.faults store.new }
+{
+    let bytes = fetched(alloc, store, name)?;
+    match read_object(alloc, bytes.as_slice()) {
+        Ok(object) => Ok(object),
+        Err(ReadErr::Refused(refusal)) => Err(Failure::Refused(Refusal::Elf(
+            name.copy(alloc)?,
+            refusal,
+        ))),
+        Err(ReadErr::Memory) => Err(Failure::Memory),
+    }
+}
