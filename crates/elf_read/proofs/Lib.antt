@@ -1,0 +1,11 @@
+pub mod Loops
+pub mod Filtered
+pub mod Find
+pub mod Holders
+pub mod Places
+pub mod Meeting
+pub mod Placed
+pub mod Ranges
+pub mod Filling
+pub mod Exact
+pub mod Listed

@@ -1,1 +1,9 @@
 pub mod Reads
+pub mod Passes
+pub mod Taken
+pub mod Tables
+pub mod Strings
+pub mod SectionTable
+pub mod Functions
+pub mod Fixups
+pub mod Hashed
