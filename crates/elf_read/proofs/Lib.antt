@@ -10,3 +10,4 @@ pub mod Filling
 pub mod Words
 pub mod Plainness
 pub mod Exact
+pub mod Listed

@@ -3,3 +3,7 @@ pub mod Passes
 pub mod Taken
 pub mod Tables
 pub mod Plain
+pub mod Strings
+pub mod SectionTable
+pub mod Functions
+pub mod Fixups

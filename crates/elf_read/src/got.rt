@@ -1,17 +1,23 @@
 //! The GOT.
 
-ghost use Rattle.std.specs.Prelude.{◌≡◌, [], ◌∷◌, IfOk, false, true, not, unwrap_or};
-ghost use Rattle.std.specs.Option.{option_map_or};
+ghost use Rattle.std.specs.Prelude.{◌≡◌, ◌≤◌, ◌<◌, ◌^◌, [], ◌∷◌, length, IfOk, IfSome, false, true, not, option_map, unwrap_or};
+ghost use Rattle.std.specs.Option.{option_map_or, option_or};
 ghost use Rattle.elf_model.specs.declared.refusal.ElfKind.TheVariants as kinds;
 ghost use Rattle.elf_model.specs.Test.{refuses};
+ghost use Rattle.elf_model.specs.Sections.{listed_got};
+ghost use Rattle.elf_model.specs.Dynamic.{value_of};
 ghost use Rattle.elf_model.specs.Fields.{is_got_place};
+ghost use Rattle.elf_read.specs.SectionTable.{IsFixupList};
 ghost use Rattle.elf_model.specs.Relocations.{is_in_place, got_header};
 ghost use Rattle.elf_read.specs.Passes.{Reads};
 
+use crate::dynamic::value_of;
 use crate::error::TestErr;
 use crate::refuse::refusal;
+use crate::sections::listed_got;
 use crate::sites::is_in_place;
-use elf_model::{ElfKind, ProgramHeader, Site};
+use elf_model::constants::{DT_PLTGOT, EHDR_SIZE};
+use elf_model::{DynEntry, ElfKind, ProgramHeader, Site};
 
 /// The words of the GOT that the loader fills.
 pub fn got_header(got: u32) -> Site
@@ -38,5 +44,21 @@ pub fn check_got(loads: &[ProgramHeader], got: Option<u32>, offset: u32) -> Resu
                 Err(refusal(ElfKind::NoGot, offset))
             }
         }
+    }
+}
+
+/// The link address of the GOT: the value of DT_PLTGOT, or else the last word of the list of fixups.
+pub fn got_of(bytes: &[u8], entries: &[DynEntry], list: Option<u16>) -> Option<u32>
+    requires small { length bytes.now < 2 ^ 32 }
+    requires long { EHDR_SIZE ≤ length bytes.now }
+    requires list { IfSome list (IsFixupList bytes.now) }
+    ensures { result ≡ option_or (value_of DT_PLTGOT entries.now) (option_map (listed_got bytes.now) list) }
+{
+    match value_of(DT_PLTGOT, entries) {
+        Some(addr) => Some(addr),
+        None => match list {
+            None => None,
+            Some(i) => Some(listed_got(bytes, i)),
+        },
     }
 }

@@ -2,11 +2,12 @@
 
 ghost use Rattle.std.specs.Prelude.{◌≡◌, ◌≤◌, ◌<◌, ◌^◌, ◌+◌, ◌*◌, length, OnOk};
 ghost use Rattle.elf_model.specs.Header as spec;
+ghost use Rattle.elf_read.specs.SectionTable.{HasSectionTable};
 ghost use Rattle.elf_read.specs.Passes.{Passes};
 
 use crate::error::TestErr;
 use crate::refuse::refuse;
-use elf_model::ElfKind;
+use elf_model::{ElfKind, Kind};
 use elf_model::constants::{
     EF_ARM_EABI_VERSION, EHDR_SIZE, ELFOSABI_ARM_FDPIC, EM_ARM, ET_DYN, ET_EXEC, PHDR_SIZE,
     SHDR_SIZE,
@@ -17,7 +18,7 @@ use fd_base::{half_in, word_in};
 const IDENT: [u8; 8] = [0x7f, b'E', b'L', b'F', 1, 1, 1, ELFOSABI_ARM_FDPIC];
 
 /// Whether `n` bytes from an offset on pass the end of the file.
-fn passes_end(bytes: &[u8], offset: u32, n: usize) -> bool
+pub fn passes_end(bytes: &[u8], offset: u32, n: usize) -> bool
     requires { offset + n < 2 ^ 64 }
     ensures { result ≡ spec.passes_end bytes.now offset n }
 {
@@ -89,7 +90,8 @@ fn check_program_table(bytes: &[u8]) -> Result<(), TestErr>
 #[tactic(auto, unfolding(elf_model::specs::Header::section_table_tests))]
 fn check_section_table(bytes: &[u8]) -> Result<(), TestErr>
     requires { EHDR_SIZE ≤ length bytes.now }
-    ensures { Passes result (spec.section_table_tests bytes.now) }
+    ensures tests { Passes result (spec.section_table_tests bytes.now) }
+    ensures sections { OnOk result (HasSectionTable bytes.now) }
 {
     let count = half_in(bytes, 48);
     if count == 0 {
@@ -112,6 +114,7 @@ pub fn check_header(bytes: &[u8]) -> Result<(), TestErr>
     ensures tests { Passes result (spec.header_tests bytes.now) }
     ensures long { OnOk result (EHDR_SIZE ≤ length bytes.now) }
     ensures table { OnOk result (spec.e_phoff bytes.now + PHDR_SIZE * spec.e_phnum bytes.now ≤ length bytes.now) }
+    ensures sections { OnOk result (HasSectionTable bytes.now) }
 {
     check_size(bytes)?;
     check_ident(bytes)?;
@@ -119,4 +122,16 @@ pub fn check_header(bytes: &[u8]) -> Result<(), TestErr>
     check_type(bytes)?;
     check_program_table(bytes)?;
     check_section_table(bytes)
+}
+
+/// What the object is for.
+pub fn kind_of(bytes: &[u8]) -> Kind
+    requires { EHDR_SIZE ≤ length bytes.now }
+    ensures { result ≡ spec.kind bytes.now }
+{
+    if half_in(bytes, 16) == ET_EXEC {
+        Kind::Exec
+    } else {
+        Kind::Dyn
+    }
 }

@@ -5,7 +5,7 @@ ghost use Rattle.std.specs.Option.{option_copied};
 ghost use Rattle.elf_model.specs.Segments as spec;
 
 use elf_model::ProgramHeader;
-use elf_model::constants::PF_W;
+use elf_model::constants::{PF_W, PF_X};
 
 #[tactic(auto, unfolding(elf_model::specs::Segments::holds))]
 fn holds(h: &ProgramHeader, addr: u32, size: u32) -> bool
@@ -58,4 +58,14 @@ pub fn is_writable_at(loads: &[ProgramHeader], addr: u32, size: u32) -> bool
     loads
         .iter()
         .any(|h| has_flag(h.flags, PF_W) && is_in_memory(h, addr, size))
+}
+
+/// Whether the link address is in the memory of an executable segment.
+#[tactic(auto, unfolding(elf_model::specs::Segments::is_executable_at))]
+pub fn is_executable_at(loads: &[ProgramHeader], addr: u32) -> bool
+    ensures { result ≡ spec.is_executable_at loads.now addr }
+{
+    loads
+        .iter()
+        .any(|h| has_flag(h.flags, PF_X) && is_in_memory(h, addr, 1))
 }

@@ -3,16 +3,23 @@
 
 mod dynamic;
 mod error;
+mod fixups;
+mod flags;
 mod got;
 mod header;
 mod held;
+mod names;
 mod object;
 mod plain;
 mod refuse;
 mod relocations;
 mod segments;
+mod sections;
 mod sites;
+mod strings;
+mod symbols;
 mod tables;
+mod whole;
 
 pub use elf_model::{ElfKind, ElfRefusal};
 pub use error::ReadErr;

@@ -5,11 +5,10 @@ ghost use Rattle.elf_model.specs.declared.object.Object.{Object};
 ghost use Rattle.elf_model.specs.declared.table.DynEntry.{DynEntry};
 ghost use Rattle.elf_model.specs.declared.object.Rel.{Rel};
 ghost use Rattle.elf_model.specs.Header.{e_phoff, e_phnum, e_shnum};
-ghost use Rattle.elf_model.specs.Header as header;
 ghost use Rattle.elf_model.specs.Segments as segment;
 ghost use Rattle.elf_model.specs.Relocations.{is_in_place, got_header, rels_of};
 ghost use Rattle.elf_model.specs.Fields as field;
-ghost use Rattle.elf_model.specs.Object.{all_segment_tests, object_of};
+ghost use Rattle.elf_model.specs.Object.{object_of};
 ghost use Rattle.elf_model.specs.Plain.{IsPlainObject, has_plain_entries};
 ghost use Rattle.elf_model.specs.Sound.{IsSound};
 ghost use Rattle.elf_read.specs.Passes.{Passes, Reads};
@@ -19,31 +18,16 @@ ghost use Rattle.elf_read.specs.Reads.{IsReadAs, IsAnswer};
 use crate::dynamic::{check_entries, dynamic_entries, dynamic_offset_or, value_of};
 use crate::error::{ReadErr, TestErr};
 use crate::got::check_got;
-use crate::header::check_header;
+use crate::header::{check_header, kind_of};
 use crate::plain::{are_plain_entries, are_plain_slots, has_plain_headers};
 use crate::refuse::refuse;
 use crate::relocations::{check_relocations, rels_of};
-use crate::segments::{loads, segments_of};
+use crate::segments::{read_loads, segments_of};
 use crate::tables::jmprel_entries;
-use elf_model::constants::{DT_PLTGOT, EHDR_SIZE, ET_EXEC, PHDR_SIZE};
-use elf_model::{DynEntry, ElfKind, Inits, Kind, Object, ProgramHeader, Rels, Segments, Symbols};
+use elf_model::constants::{DT_PLTGOT, EHDR_SIZE, PHDR_SIZE};
+use elf_model::{DynEntry, ElfKind, Inits, Object, ProgramHeader, Rels, Segments, Symbols};
 use fd_base::{Names, half_in, word_in};
 use std::alloc::Global;
-
-/// The segments, of which there is at least one.
-#[tactic(auto, using(elf_model::proofs::Tests::passed_over, elf_model::proofs::Tests::fails_first), unfolding(elf_model::specs::Object::all_segment_tests, elf_model::specs::Segments::some_segment_tests))]
-fn read_loads(alloc: Global, bytes: &[u8]) -> Result<Vec<ProgramHeader>, TestErr>
-    requires small { length bytes.now < 2 ^ 32 }
-    requires long { EHDR_SIZE ≤ length bytes.now }
-    requires table { e_phoff bytes.now + PHDR_SIZE * e_phnum bytes.now ≤ length bytes.now }
-    ensures tests { Reads (λ v. v.items) result (all_segment_tests bytes.now) (segment.loads bytes.now) }
-    ensures in_file { IfOk result (λ v. All (segment.InFile (length bytes.now)) v.items) }
-    ensures below { IfOk result (λ v. All (λ h. h.vaddr + h.memsz < 2 ^ 32) v.items) }
-{
-    let loads = loads(alloc, bytes)?;
-    refuse(loads.is_empty(), ElfKind::Header, 44)?;
-    Ok(loads)
-}
 
 #[tactic(auto, unfolding(crate::specs::Plain::header_conditions))]
 fn check_plain_headers(bytes: &[u8]) -> Result<(), TestErr>
@@ -143,18 +127,6 @@ fn read_slots(
     let is_plain = are_plain_slots(segments.as_slice(), slots.as_slice());
     refuse(!is_plain, ElfKind::Header, 0)?;
     Ok(slots)
-}
-
-/// What the object is for.
-fn kind_of(bytes: &[u8]) -> Kind
-    requires { EHDR_SIZE ≤ length bytes.now }
-    ensures { result ≡ header.kind bytes.now }
-{
-    if half_in(bytes, 16) == ET_EXEC {
-        Kind::Exec
-    } else {
-        Kind::Dyn
-    }
 }
 
 /// The object of a plain file.

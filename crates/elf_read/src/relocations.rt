@@ -86,7 +86,7 @@ pub fn check_relocations(
 ) -> Result<Taken, TestErr>
     requires below { All (λ h. h.vaddr + h.memsz < 2 ^ 32) loads.now }
     requires got { spec.is_in_place loads.now (spec.got_header got) ≡ true }
-    ensures { Gives result (spec.all_rel_tests loads.now symbol_count got entries.now) (λ t. Has t (spec.sites_before got entries.now (length entries.now))) }
+    ensures { Gives result (spec.all_rel_tests loads.now symbol_count got entries.now) (λ t. Has t (spec.got_header got ∷ spec.sites_of entries.now)) }
 {
     let mut taken = Taken::new(alloc);
     taken.take(loads, &got_header(got))?;

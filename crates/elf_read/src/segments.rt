@@ -4,6 +4,7 @@ ghost use Rattle.std.specs.Prelude.{◌≡◌, ◌≤◌, ◌<◌, ◌^◌, ◌+
 ghost use Rattle.std.specs.List.{list_any};
 ghost use Rattle.elf_model.specs.Header.{e_phoff, e_phnum};
 ghost use Rattle.elf_model.specs.Segments as spec;
+ghost use Rattle.elf_model.specs.Object.{all_segment_tests};
 ghost use Rattle.elf_read.specs.Passes.{Passes, Reads};
 
 use crate::error::TestErr;
@@ -100,7 +101,7 @@ fn check_program_header(
 }
 
 /// The headers of the segments with memory, in order.
-pub fn loads(alloc: Global, bytes: &[u8]) -> Result<Vec<ProgramHeader>, TestErr>
+fn loads(alloc: Global, bytes: &[u8]) -> Result<Vec<ProgramHeader>, TestErr>
     requires small { length bytes.now < 2 ^ 32 }
     requires long { EHDR_SIZE ≤ length bytes.now }
     requires table { e_phoff bytes.now + PHDR_SIZE * e_phnum bytes.now ≤ length bytes.now }
@@ -116,6 +117,21 @@ pub fn loads(alloc: Global, bytes: &[u8]) -> Result<Vec<ProgramHeader>, TestErr>
             loads.push(h)?;
         }
     }
+    Ok(loads)
+}
+
+/// The segments, of which there is at least one.
+#[tactic(auto, using(elf_model::proofs::Tests::passed_over, elf_model::proofs::Tests::fails_first), unfolding(elf_model::specs::Object::all_segment_tests, elf_model::specs::Segments::some_segment_tests))]
+pub fn read_loads(alloc: Global, bytes: &[u8]) -> Result<Vec<ProgramHeader>, TestErr>
+    requires small { length bytes.now < 2 ^ 32 }
+    requires long { EHDR_SIZE ≤ length bytes.now }
+    requires table { e_phoff bytes.now + PHDR_SIZE * e_phnum bytes.now ≤ length bytes.now }
+    ensures tests { Reads (λ v. v.items) result (all_segment_tests bytes.now) (spec.loads bytes.now) }
+    ensures in_file { IfOk result (λ v. All (spec.InFile (length bytes.now)) v.items) }
+    ensures below { IfOk result (λ v. All (λ h. h.vaddr + h.memsz < 2 ^ 32) v.items) }
+{
+    let loads = loads(alloc, bytes)?;
+    refuse(loads.is_empty(), ElfKind::Header, 44)?;
     Ok(loads)
 }
 

@@ -1,7 +1,6 @@
 //! The tables of relocations and their entries.
 
 ghost use Rattle.std.specs.Prelude.{◌≡◌, ◌≤◌, ◌<◌, ◌^◌, ◌+◌, ◌/◌, ℕ, length, All, IfOk, IfSome, Some, unwrap_or};
-ghost use Rattle.std.specs.List.{range_with_len};
 ghost use Rattle.elf_model.specs.Segments.{InFile, held_at};
 ghost use Rattle.elf_model.specs.Relocations as spec;
 ghost use Rattle.elf_read.specs.Tables as tables;
@@ -11,8 +10,8 @@ use crate::dynamic::{first_of, value_of};
 use crate::error::TestErr;
 use crate::held::held_at;
 use crate::refuse::{refusal, refuse};
-use elf_model::constants::{DT_JMPREL, DT_PLTRELSZ, MAX_ENTRIES, REL_SIZE};
-use elf_model::{DynEntry, ElfKind, ProgramHeader, RelEntry, RelTable};
+use elf_model::constants::{DT_JMPREL, DT_PLTRELSZ, DT_REL, DT_RELSZ, MAX_ENTRIES, REL_SIZE};
+use elf_model::{DynEntry, ElfKind, Extent, ProgramHeader, RelEntry, RelTable};
 use fd_base::{Memory, word_in};
 use std::alloc::Global;
 
@@ -91,26 +90,79 @@ fn rel_entry(bytes: &[u8], table: RelTable, offset: usize) -> RelEntry
     }
 }
 
-/// All entries of a table.
-fn all_in(
+/// The link addresses of the slots' relocations.
+#[tactic(auto, unfolding(crate::specs::Tables::slot_range))]
+fn slot_range(entries: &[DynEntry]) -> Option<Extent>
+    ensures { result ≡ tables.slot_range entries.now }
+{
+    match value_of(DT_JMPREL, entries) {
+        None => None,
+        Some(addr) => Some(Extent {
+            addr,
+            size: value_of(DT_PLTRELSZ, entries).unwrap_or(0),
+        }),
+    }
+}
+
+/// Whether the entry at a link address lies inside a range.
+fn is_inside(range: Option<Extent>, addr: u64) -> bool
+    requires { addr < 2 ^ 40 }
+    ensures { result ≡ tables.is_inside range addr }
+{
+    match range {
+        None => false,
+        Some(r) => {
+            let first = u64::from(r.addr);
+            first <= addr && addr + u64::from(REL_SIZE) <= first + u64::from(r.size)
+        }
+    }
+}
+
+/// The entries of a table, without those that lie inside the range `left_out`.
+fn entries_of(
     alloc: Global,
     bytes: &[u8],
     table: RelTable,
+    left_out: Option<Extent>,
     range: &RelRange,
 ) -> Result<Vec<RelEntry>, Memory>
     requires inside { range.now.offset + range.now.size ≤ length bytes.now }
     requires small { length bytes.now < 2 ^ 32 }
-    ensures { IfOk result (λ v. v.items ≡ spec.entries_at bytes.now table range.now.offset (range_with_len 0 (range.now.size / REL_SIZE))) }
+    ensures { IfOk result (λ v. v.items ≡ tables.entries_of bytes.now table left_out range.now) }
 {
     let mut entries = Vec::new(alloc);
     for k in 0..range.size / REL_SIZE {
-        entries.push(rel_entry(bytes, table, range.offset + (REL_SIZE * k) as usize))?;
+        let at = REL_SIZE * k;
+        if !is_inside(left_out, u64::from(range.addr) + u64::from(at)) {
+            entries.push(rel_entry(bytes, table, range.offset + at as usize))?;
+        }
     }
     Ok(entries)
 }
 
+/// The entries of DT_REL that are its own: those inside the table of the slots are left out.
+#[tactic(auto, using(crate::proofs::Ranges::own_entries))]
+pub fn rel_entries(
+    alloc: Global,
+    bytes: &[u8],
+    loads: &[ProgramHeader],
+    entries: &[DynEntry],
+) -> Result<Vec<RelEntry>, TestErr>
+    requires small { length bytes.now < 2 ^ 32 }
+    requires in_file { All (InFile (length bytes.now)) loads.now }
+    ensures { Reads (λ v. v.items) result (spec.rel_table_tests loads.now entries.now DT_REL DT_RELSZ) (spec.rel_entries bytes.now loads.now entries.now) }
+{
+    match range_of(loads, entries, DT_REL, DT_RELSZ)? {
+        None => Ok(Vec::new(alloc)),
+        Some(range) => {
+            let slots = slot_range(entries);
+            Ok(entries_of(alloc, bytes, RelTable::Rel, slots, &range)?)
+        }
+    }
+}
+
 /// The entries of DT_JMPREL, one for each slot.
-#[tactic(auto, unfolding(elf_model::specs::Relocations::jmprel_entries, crate::specs::Tables::range_of))]
+#[tactic(auto, using(crate::proofs::Ranges::slot_entries))]
 pub fn jmprel_entries(
     alloc: Global,
     bytes: &[u8],
@@ -123,6 +175,6 @@ pub fn jmprel_entries(
 {
     match range_of(loads, entries, DT_JMPREL, DT_PLTRELSZ)? {
         None => Ok(Vec::new(alloc)),
-        Some(range) => Ok(all_in(alloc, bytes, RelTable::JmpRel, &range)?),
+        Some(range) => Ok(entries_of(alloc, bytes, RelTable::JmpRel, None, &range)?),
     }
 }
