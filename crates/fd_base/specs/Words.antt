@@ -1,4 +1,4 @@
--- Little-endian numbers in a list of bytes.
+-- Little-endian numbers in a list of bytes (gABI, "Data Representation", encoding ELFDATA2LSB).
 use Rattle.std.specs.Prelude.{ℕ, ◌+◌, List, ◌++◌, length, take, drop, Option, Some, None, nat_le, if◌then◌else◌}
 use Rattle.byteorder.specs.Endian.{little_number, little_bytes}
 

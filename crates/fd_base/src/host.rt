@@ -1,8 +1,9 @@
 //! The files of the current folder, and the standard streams. They count faults and tell no content.
 
-ghost use Rattle.std.specs.Prelude.{◌≡◌, ◌≤◌, length, IsOk, IsErrOf, OnOk, OnErr};
+ghost use Rattle.std.specs.Prelude.{◌≡◌, ◌≤◌, length, IsOk, IsErrOf, None, OnOk, OnErr};
 ghost use Rattle.std.specs.Io.KnownBytes.{Appends};
 ghost use Rattle.fd_base.specs.Faults.{Rose};
+ghost use Rattle.fd_base.specs.Grown.{SinkAnswers};
 ghost use Rattle.fd_base.specs.Host.{ReadAnswers};
 
 use crate::name::Name;
@@ -133,7 +134,7 @@ impl<R: Files> Store for DirStore<R> {
     }
 }
 
-/// A standard stream.
+/// A standard stream: a writer, and the count of its faults.
 #[derive(Drop)]
 pub struct StdSink<W> {
     writer: W,
@@ -143,28 +144,31 @@ pub struct StdSink<W> {
 impl<W> Model for StdSink<W> {
     ghost use Rattle.std.specs.Prelude.{ℕ};
 
-    ghost Value = { ℕ };
+    ghost Value = { W × ℕ };
 
-    ghost view = { λ s. s.faults };
+    ghost view = { λ s. (s.writer, s.faults) };
 }
 
 impl<W> StdSink<W> {
-    /// What a writer takes, with no fault so far. Contracts see the count of faults alone.
+    /// What a writer takes, with no fault so far.
     pub fn new(writer: W) -> Self
-        ensures { result ≡ 0 }
+        ensures { result ≡ (writer, 0) }
     {
         StdSink { writer, faults: 0 }
     }
 }
 
 impl<W: Write> Sink for StdSink<W> {
-    ghost use Rattle.std.specs.Prelude.{None};
-
     ghost bytes = { λ _. None };
 
-    ghost faults = { λ s. s };
+    ghost faults = { λ s. s.1 };
 
-    fn put(&mut self, piece: &[u8]) -> Result<(), SinkErr> {
+    fn put(&mut self, piece: &[u8]) -> Result<(), SinkErr>
+        ensures count { self.old.1 ≤ self.new.1 }
+        ensures empty { length piece.now ≡ 0 → IsOk result }
+        ensures answer { SinkAnswers None None piece.now self.old.1 self.new.1 result }
+        ensures written { OnOk result (Appends (W.contents self.old.0) (W.contents self.new.0) piece.now) }
+    {
         write_all(&mut self.writer, piece, &mut self.faults)
     }
 }

@@ -77,7 +77,9 @@ impl MemSink {
     /// Lets the call-th put fail and take nothing, counted from 1 over pieces that aren't empty. A number
     /// that has passed, and 0, never comes.
     pub fn fail_at(&mut self, call: u32) -> Result<(), Memory>
-        ensures { self.new ≡ (if is_ok result then record self.old { calls = with_failing call self.old.calls } else self.old) }
+        ensures { self.new ≡ (if is_ok result
+            then record self.old { calls = with_failing call self.old.calls }
+            else self.old) }
     {
         self.calls.fail_at(call)
     }
@@ -102,7 +104,8 @@ impl Sink for MemSink {
         ensures empty { length piece.now ≡ 0 → IsOk result }
         ensures answer { SinkAnswers (Some self.old.bytes) (Some self.new.bytes) piece.now
             self.old.calls.faults self.new.calls.faults result }
-        ensures failed { (result ≡ Err SinkErr.Failed) ↔ (0 < length piece.now) × IsTrue (fails_next self.old.calls) }
+        ensures failed { (result ≡ Err SinkErr.Failed)
+            ↔ ((0 < length piece.now) × IsTrue (fails_next self.old.calls)) }
         ensures after { self.new ≡ (if length piece.now == 0 then self.old else record {
           bytes = if is_ok result then self.old.bytes ++ piece.now else self.old.bytes;
           calls = with_call self.old.calls;

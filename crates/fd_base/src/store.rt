@@ -76,7 +76,8 @@ pub trait Store {
     fn fetch(&mut self, alloc: Global, name: &Name) -> Result<Option<Bytes>, FetchErr>
         ensures files { files self.new ≡ files self.old }
         ensures count { faults self.old ≤ faults self.new }
-        ensures answer { FetchAnswers (files self.old) name.now (faults self.old) (faults self.new) result };
+        ensures answer { FetchAnswers (files self.old) name.now
+            (faults self.old) (faults self.new) result };
 
     /// Makes the file with this name hold these bytes. The other files stay.
     fn put(&mut self, name: &Name, bytes: &[u8]) -> Result<(), PutErr>
@@ -130,7 +131,9 @@ impl MemStore {
 
     /// Lets the call-th fetch or put fail, counted from 1. A number that has passed, and 0, never comes.
     pub fn fail_at(&mut self, call: u32) -> Result<(), Memory>
-        ensures { self.new ≡ (if is_ok result then record self.old { calls = with_failing call self.old.calls } else self.old) }
+        ensures { self.new ≡ (if is_ok result
+            then record self.old { calls = with_failing call self.old.calls }
+            else self.old) }
     {
         self.calls.fail_at(call)
     }
@@ -147,7 +150,8 @@ impl Store for MemStore {
     fn fetch(&mut self, alloc: Global, name: &Name) -> Result<Option<Bytes>, FetchErr>
         ensures files { Some self.new.files ≡ Some self.old.files }
         ensures count { self.old.calls.faults ≤ self.new.calls.faults }
-        ensures answer { FetchAnswers (Some self.old.files) name.now self.old.calls.faults self.new.calls.faults result }
+        ensures answer { FetchAnswers (Some self.old.files) name.now
+            self.old.calls.faults self.new.calls.faults result }
         ensures failed { (result ≡ Err FetchErr.Failed) ↔ IsTrue (fails_next self.old.calls) }
         ensures after { self.new ≡ record self.old { calls = with_call self.old.calls } }
     {

@@ -1,1 +1,10 @@
+pub mod Consistency
+pub mod Determined
+pub mod Filled
+pub mod Itemized
+pub mod Parts
+pub mod SlotWords
+pub mod Stored
 pub mod Told
+pub mod Writing
+pub mod Zips

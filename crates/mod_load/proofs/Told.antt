@@ -1,5 +1,5 @@
 -- What a first load comes to where the files are told.
-use Rattle.std.proofs.Common.{◌≡◌, ℕ, List, Option, Some, None, IfSome, refl}
+use Rattle.std.proofs.Common.{◌≡◌, ℕ, List, Option, Some, None, IfSome}
 use Rattle.fd_base.specs.Fetched.{Files}
 use Rattle.mod_load.specs.declared.plan.MemPlan.{MemPlan}
 use Rattle.mod_load.specs.declared.module.Added.{Added}

@@ -7,7 +7,6 @@ use Rattle.fd_base.specs.declared.map.MapEntry.{MapEntry}
 use Rattle.fd_base.specs.LoadMap.{address_of}
 use Rattle.elf_model.specs.declared.object.Object.{Object}
 use Rattle.elf_model.specs.declared.object.Rel.{Rel}
-use Rattle.elf_model.specs.declared.object.Segment.{Segment}
 use Rattle.elf_model.specs.Places.{file_byte, file_word}
 use Rattle.mod_load.specs.declared.module.LinkWord.{LinkWord}
 use Rattle.mod_load.specs.declared.module.TheConstants.{RESOLVER, LOAD_MAPS, LOAD_MAP_SIZE}

@@ -1,7 +1,11 @@
 pub mod Accepts
+pub mod Bounds
+pub mod Causes
 pub mod Fit
 pub mod Image
 pub mod Items
+pub mod Kept
+pub mod Laws
 pub mod Loaded
 pub mod Loading
 pub mod Plan

@@ -1,13 +1,14 @@
 -- What a loader holds: one process over its memory plan.
-use Rattle.std.specs.Prelude.{◌≡◌, ◌≢◌, ℕ, ◌+◌, ◌*◌, ◌%◌, ◌^◌, ◌<◌, ◌≤◌, List, [], ◌∷◌, ◌++◌, length, map, slice_get, Option, Some, None, AllPairs}
+use Rattle.std.specs.Prelude.{◌≡◌, ◌≢◌, ℕ, ◌+◌, ◌%◌, ◌≤◌, List, [], ◌∷◌, ◌++◌, length, map, slice_get, Option, Some, None, AllPairs}
 use Rattle.std.specs.List.{AllZip}
 use Rattle.fd_base.specs.declared.map.MapEntry.{MapEntry}
 use Rattle.elf_model.specs.declared.object.Segment.{Segment}
 use Rattle.elf_model.specs.Sound.{IsSound}
 use Rattle.placement.specs.declared.item.Held.{Held}
 use Rattle.placement.specs.Legal.{unit_of}
-use Rattle.placement.specs.Space.{Space, AreApart, SameRanges, all_held}
+use Rattle.placement.specs.Space.{AreApart, SameRanges, all_held}
 use Rattle.mod_load.specs.declared.plan.MemPlan.{MemPlan}
+use Rattle.mod_load.specs.declared.module.TheConstants.{MAX_MODULES}
 use Rattle.mod_load.specs.declared.module.Module.{Module}
 use Rattle.mod_load.specs.declared.module.Added.{Added}
 use Rattle.mod_load.specs.declared.module.TheConstants.{MAX_MODULES}
@@ -64,7 +65,7 @@ abbrev pub ranges_from : ℕ → List Module → List Held
 ranges_from number [] = []
 ranges_from number (m ∷ ms) = ranges_of number m.load_map ++ ranges_from (number + 1) ms
 
--- Live modules have different names and stand, and what is held are their segments, which meet nowhere.
+-- Live modules are few, have different names and stand, and what is held are their segments, which meet nowhere.
 pub record IsConsistent (l : Loaded) : Type 0 where
   pub few : length l.modules ≤ MAX_MODULES
   pub names : AllPairs (λ m n. m.name ≢ n.name) l.modules

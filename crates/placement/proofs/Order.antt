@@ -1,11 +1,12 @@
 -- Held ranges in another order, and ranges that meet nowhere.
-use Rattle.std.proofs.Common.{◌≡◌, ℕ, zero, suc, Option, Some, None, MatchOption, ◌<◌, ◌≤◌, ◌⊎◌, inl, inr, true, false, cond, ltb, List, [], ◌∷◌, ◌++◌, length, get_or, All, Contains, refl, subst, arith}
-use Rattle.std.proofs.lemmas.List.Elements.{All-nil, All-head, All-tail, All-weaker, All-contains, All-contains_itself, All-push, Contains-append_left, Contains-push, Contains-push_cases}
+use Rattle.std.proofs.Common.{◌≡◌, ℕ, zero, suc, Option, Some, None, MatchOption, ◌<◌, ◌≤◌, ◌⊎◌, inl, inr, true, false, cond, ltb, List, [], ◌∷◌, ◌++◌, length, get_or, All, Contains, refl, sym, subst, arith}
+use Rattle.std.proofs.lemmas.List.Elements.{All-nil, All-head, All-tail, All-weaker, All-contains, All-contains_itself, All-push, Contains-append_left, Contains-append_right, Contains-append_cases, Contains-push, Contains-push_cases}
+use Rattle.std.proofs.lemmas.List.{append-nil, append_assoc}
 use Rattle.placement.specs.declared.item.Held.{Held}
 use Rattle.placement.specs.declared.item.Item.{Item}
 use Rattle.placement.specs.Legal.{Apart, IsLegal, Chosen}
 use Rattle.placement.specs.Placed.{Placed, FailsAt, range_at}
-use Rattle.placement.specs.Space.{held_with, all_held, AreApart, SameRanges}
+use Rattle.placement.specs.Space.{held_with, all_held, ranges_at, AreApart, SameRanges}
 
 -- what holds of all ranges holds of those that are among them
 all_among : (P : Held → Type 0) (xs ys : List Held) → ((r : Held) → Contains ys r → Contains xs r) → All P xs → All P ys
@@ -140,3 +141,32 @@ apart_all low high held (item ∷ items) (at ∷ addrs) apart p =
     let new = range_at item at in
     apart_all low high (held_with new held) items addrs (apart_with new held p.0.legal.apart apart)
     (placed_same low high (held ++ new ∷ []) (held_with new held) items addrs (same_with new held) p.1)
+
+-- more ranges behind the same ones are the same
+same_in_front : (xs ys zs : List Held) → SameRanges xs ys → SameRanges (xs ++ zs) (ys ++ zs)
+same_in_front xs ys zs same = λ r. (among xs ys r (λ q. (same q).0), among ys xs r (λ q. (same q).1))
+  where
+    among : (us vs : List Held) (r : Held) → ((q : Held) → Contains us q → Contains vs q) → Contains (us ++ zs) r → Contains (vs ++ zs) r
+    among us vs r each here =
+        elim (Contains-append_cases us zs r here) [
+          | inl first ↦ Contains-append_left vs zs r (each r first)
+          | inr later ↦ Contains-append_right vs zs r later
+        ]
+
+same_trans : (xs ys zs : List Held) → SameRanges xs ys → SameRanges ys zs → SameRanges xs zs
+same_trans xs ys zs a b = λ r. ((λ h. (b r).0 ((a r).0 h)), (λ h. (a r).1 ((b r).1 h)))
+
+same_turned : (xs ys : List Held) → SameRanges xs ys → SameRanges ys xs
+same_turned xs ys same = λ r. ((same r).1, (same r).0)
+
+-- what is held besides is the items' ranges
+pub same_all : (items : List Item) (addrs : List ℕ) (held : List Held) → SameRanges (all_held items addrs held) (held ++ ranges_at items addrs)
+same_all [] addrs held = subst (SameRanges held) (sym (append-nil held)) (λ r. ((λ h. h), (λ h. h)))
+same_all (item ∷ items) [] held = subst (SameRanges held) (sym (append-nil held)) (λ r. ((λ h. h), (λ h. h)))
+same_all (item ∷ items) (at ∷ addrs) held =
+    let new = range_at item at in
+    let rest = ranges_at items addrs in
+    let more : SameRanges (held_with new held ++ rest) ((held ++ new ∷ []) ++ rest) =
+    same_in_front (held_with new held) (held ++ new ∷ []) rest (same_turned (held ++ new ∷ []) (held_with new held) (same_with new held)) in
+    let joined : SameRanges (held_with new held ++ rest) (held ++ new ∷ rest) = subst (SameRanges (held_with new held ++ rest)) (append_assoc held (new ∷ []) rest) more in
+    same_trans (all_held items addrs (held_with new held)) (held_with new held ++ rest) (held ++ new ∷ rest) (same_all items addrs (held_with new held)) joined

@@ -40,3 +40,9 @@ AreApart (range ∷ held) = All (Apart range.start range.len) held × AreApart h
 -- the same ranges, in any order
 abbrev pub SameRanges : List Held → List Held → Type 0
 SameRanges xs ys = (r : Held) → Contains xs r ↔ Contains ys r
+
+-- the ranges of items at their addresses
+abbrev pub ranges_at : List Item → List ℕ → List Held
+ranges_at [] addrs = []
+ranges_at (item ∷ items) [] = []
+ranges_at (item ∷ items) (at ∷ addrs) = range_at item at ∷ ranges_at items addrs

@@ -1,8 +1,8 @@
 //! What holds of placings themselves. Nothing here runs.
 
-ghost use Rattle.std.specs.Prelude.{◌≡◌, ℕ, ◌↔◌, List, Contains};
+ghost use Rattle.std.specs.Prelude.{◌≡◌, ℕ, ◌↔◌, ◌++◌, List, Contains};
 ghost use Rattle.placement.specs.Placed.{Placed, FailsAt};
-ghost use Rattle.placement.specs.Space.{AreApart, all_held, SameRanges};
+ghost use Rattle.placement.specs.Space.{AreApart, all_held, ranges_at, SameRanges};
 ghost use Rattle.placement.specs.declared.item.Held.{Held};
 ghost use Rattle.placement.specs.declared.item.Item.{Item};
 
@@ -22,6 +22,12 @@ pub fn regardless_of_order()
         SameRanges xs ys → Placed low high xs items addrs → Placed low high ys items addrs }
     ensures fails { (low high : ℕ) (xs ys : List Held) (items : List Item) (n : ℕ) →
         SameRanges xs ys → FailsAt low high xs items n → FailsAt low high ys items n }
+{}
+
+/// What is held once items are held is what was held and the ranges of these items, and nothing else.
+pub fn holds_just_these()
+    ensures { (items : List Item) (addrs : List ℕ) (held : List Held) →
+        SameRanges (all_held items addrs held) (held ++ ranges_at items addrs) }
 {}
 
 /// Ranges that meet nowhere still meet nowhere once placed items are held too.

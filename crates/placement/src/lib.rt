@@ -7,7 +7,7 @@ mod ranges;
 mod search;
 
 pub use item::{Addrs, Held, Item, Items};
-pub use laws::{keeps_apart, one_placing, regardless_of_order};
+pub use laws::{holds_just_these, keeps_apart, one_placing, regardless_of_order};
 pub use ranges::{PlaceErr, Ranges};
 
 #[cfg(test)]

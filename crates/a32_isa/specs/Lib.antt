@@ -1,0 +1,8 @@
+pub mod Fields
+pub mod Registers
+pub mod Allowed
+pub mod Table
+pub mod Decoding
+pub mod Names
+pub mod Immediate
+pub mod Text

@@ -1,0 +1,23 @@
+//! The A32 integer subset: its instruction table, words decoded and encoded, and instructions printed.
+#![tactic(auto)]
+
+mod addressing;
+mod allowed;
+mod bits;
+mod decoder;
+mod encoder;
+mod immediate;
+mod instr;
+mod laws;
+mod names;
+mod operands;
+mod printer;
+mod puts;
+#[cfg(test)]
+mod tests;
+
+pub use decoder::decode;
+pub use encoder::encode;
+pub use instr::{Arg, HalfOff, Instr, MemOff, Op};
+pub use laws::{constants, one_instruction, one_word, round_trips};
+pub use printer::print;
