@@ -7,7 +7,5 @@ pub mod Meeting
 pub mod Placed
 pub mod Ranges
 pub mod Filling
-pub mod Words
-pub mod Plainness
 pub mod Exact
 pub mod Listed

@@ -1,5 +1,5 @@
 -- The tables of relocations.
-use Rattle.std.proofs.Common.{◌≡◌, ℕ, ◌+◌, ◌*◌, ◌/◌, Bool, true, false, ltb, List, [], ◌∷◌, ◌++◌, map, Option, Some, None, refl, sym, ap, ◌∙◌, arith}
+use Rattle.std.proofs.Common.{◌≡◌, ℕ, ◌+◌, ◌*◌, ◌/◌, Bool, true, false, ltb, List, [], ◌∷◌, ◌++◌, Option, Some, None, refl, sym, ap, ◌∙◌, arith}
 use Rattle.std.specs.Prelude.{unwrap_or, option_map, filter, not, nat_le, ◌&&◌}
 use Rattle.std.specs.Option.{option_map_or}
 use Rattle.std.proofs.lemmas.List.{map-append, map-id, append-nil}
@@ -11,7 +11,6 @@ use Rattle.elf_model.specs.declared.table.ProgramHeader.{ProgramHeader}
 use Rattle.elf_model.specs.declared.table.DynEntry.{DynEntry}
 use Rattle.elf_model.specs.declared.table.RelTable.{RelTable}
 use Rattle.elf_model.specs.declared.table.RelTable.TheVariants.{Rel as InRel, JmpRel as InJmpRel}
-use Rattle.elf_model.specs.declared.object.Extent.{Extent}
 use Rattle.elf_model.specs.declared.table.RelEntry.{RelEntry}
 use Rattle.elf_model.specs.Test.{first_failing}
 use Rattle.elf_model.specs.Segments.{held_at}

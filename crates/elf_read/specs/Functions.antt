@@ -1,5 +1,5 @@
 -- The tests of a function's place, which are the last of a symbol.
-use Rattle.std.specs.Prelude.{ℕ, ◌%◌, ◌==◌, not, List, [], ◌∷◌}
+use Rattle.std.specs.Prelude.{◌%◌, ◌==◌, not, List, [], ◌∷◌}
 use Rattle.elf_model.specs.declared.refusal.ElfKind.TheVariants.{Thumb, FunctionPlace}
 use Rattle.elf_model.specs.declared.table.ProgramHeader.{ProgramHeader}
 use Rattle.elf_model.specs.declared.table.SymbolEntry.{SymbolEntry}

@@ -2,8 +2,8 @@ pub mod Reads
 pub mod Passes
 pub mod Taken
 pub mod Tables
-pub mod Plain
 pub mod Strings
 pub mod SectionTable
 pub mod Functions
 pub mod Fixups
+pub mod Hashed

@@ -1,5 +1,5 @@
 -- The tables of relocations, as they are read.
-use Rattle.std.specs.Prelude.{ℕ, ◌+◌, ◌*◌, ◌/◌, Bool, false, not, ◌&&◌, nat_le, List, [], filter, Option, option_map, unwrap_or}
+use Rattle.std.specs.Prelude.{ℕ, ◌+◌, ◌*◌, ◌/◌, Bool, false, not, ◌&&◌, nat_le, List, filter, Option, option_map, unwrap_or}
 use Rattle.std.specs.Option.{option_map_or}
 use Rattle.std.specs.List.{range_with_len}
 use Rattle.elf_model.specs.declared.constants.TheConstants.{REL_SIZE, DT_JMPREL, DT_PLTRELSZ}

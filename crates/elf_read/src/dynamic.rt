@@ -9,7 +9,7 @@ ghost use Rattle.elf_model.specs.Segments.{InFile};
 ghost use Rattle.elf_model.specs.Dynamic as spec;
 ghost use Rattle.elf_read.specs.Passes.{Passes, Reads};
 
-use crate::error::TestErr;
+use crate::error::ReadErr;
 use crate::held::{has_flag, held_at};
 use crate::refuse::{refusal, refuse};
 use crate::segments::{header_offset, program_header};
@@ -82,7 +82,7 @@ fn entries_of(
     loads: &[ProgramHeader],
     h: &ProgramHeader,
     offset: u32,
-) -> Result<Vec<DynEntry>, TestErr>
+) -> Result<Vec<DynEntry>, ReadErr>
     requires small { length bytes.now < 2 ^ 32 }
     requires in_file { All (InFile (length bytes.now)) loads.now }
     ensures { Reads (λ v. v.items) result (refuses kinds.DynRange offset (is_none (spec.entries_of bytes.now loads.now h.now)) ∷ []) (unwrap_or (spec.entries_of bytes.now loads.now h.now) []) }
@@ -102,7 +102,7 @@ pub fn dynamic_entries(
     alloc: Global,
     bytes: &[u8],
     loads: &[ProgramHeader],
-) -> Result<Vec<DynEntry>, TestErr>
+) -> Result<Vec<DynEntry>, ReadErr>
     requires small { length bytes.now < 2 ^ 32 }
     requires long { EHDR_SIZE ≤ length bytes.now }
     requires table { e_phoff bytes.now + PHDR_SIZE * e_phnum bytes.now ≤ length bytes.now }
@@ -132,7 +132,7 @@ pub fn dynamic_offset_or(bytes: &[u8], place: u32) -> u32
 }
 
 #[tactic(auto, unfolding(elf_model::specs::Dynamic::entry_tests))]
-fn check_entry(e: &DynEntry) -> Result<(), TestErr>
+fn check_entry(e: &DynEntry) -> Result<(), ReadErr>
     ensures { Passes result (spec.entry_tests e.now) }
 {
     let is_rela = e.tag == DT_RELA || e.tag == DT_PLTREL && e.value != DT_REL;
@@ -146,7 +146,7 @@ fn check_entry(e: &DynEntry) -> Result<(), TestErr>
 
 /// The tests of each entry by itself.
 #[tactic(auto, unfolding(elf_model::specs::Dynamic::all_entry_tests))]
-pub fn check_entries(entries: &[DynEntry]) -> Result<(), TestErr>
+pub fn check_entries(entries: &[DynEntry]) -> Result<(), ReadErr>
     ensures { Passes result (spec.all_entry_tests entries.now) }
 {
     for e in entries {

@@ -4,53 +4,30 @@ use std::alloc::{AllocError, AllocFailed};
 /// Why bytes are not read.
 #[derive(Clone, Copy, Debug, PartialEq, Eq)]
 pub enum ReadErr {
-    /// They are no plain object. Other objects are not read yet.
-    NotBuilt,
-    /// Memory is wanted.
-    Memory,
-}
-
-/// Why bytes are not read, with the test that they fail.
-#[derive(Debug, Drop)]
-pub enum TestErr {
-    /// The first failing test.
+    /// They are no object. This is the first test that they fail.
     Refused(ElfRefusal),
     /// Memory is wanted.
     Memory,
 }
 
-impl From<AllocError> for TestErr {
+impl From<AllocError> for ReadErr {
     ghost use Rattle.std.specs.Prelude.{◌≡◌};
-    ghost use Rattle.elf_read.specs.declared.error.TestErr.TheVariants.{Memory};
+    ghost use Rattle.elf_read.specs.declared.error.ReadErr.TheVariants.{Memory};
 
     ghost from_gives = { λ _ e. e ≡ Memory };
 
     fn from(_error: AllocError) -> Self {
-        TestErr::Memory
+        ReadErr::Memory
     }
 }
 
-impl<T: Drop> From<AllocFailed<T>> for TestErr {
+impl<T: Drop> From<AllocFailed<T>> for ReadErr {
     ghost use Rattle.std.specs.Prelude.{◌≡◌};
-    ghost use Rattle.elf_read.specs.declared.error.TestErr.TheVariants.{Memory};
+    ghost use Rattle.elf_read.specs.declared.error.ReadErr.TheVariants.{Memory};
 
     ghost from_gives = { λ _ e. e ≡ Memory };
 
     fn from(_error: AllocFailed<T>) -> Self {
-        TestErr::Memory
-    }
-}
-
-impl From<TestErr> for ReadErr {
-    ghost use Rattle.std.specs.Prelude.{◌≡◌};
-    ghost use Rattle.elf_read.specs.Reads.{read_err_of};
-
-    ghost from_gives = { λ t e. e ≡ read_err_of t };
-
-    fn from(error: TestErr) -> Self {
-        match error {
-            TestErr::Refused(_) => ReadErr::NotBuilt,
-            TestErr::Memory => ReadErr::Memory,
-        }
+        ReadErr::Memory
     }
 }

@@ -8,7 +8,7 @@ ghost use Rattle.elf_read.specs.SectionTable.{IsFixupList};
 ghost use Rattle.elf_read.specs.Taken.{Has};
 ghost use Rattle.elf_read.specs.Passes.{Passes, Reads};
 
-use crate::error::TestErr;
+use crate::error::ReadErr;
 use crate::sections::{fixups_of, rofixup_offset};
 use crate::sites::Taken;
 use elf_model::constants::EHDR_SIZE;
@@ -23,7 +23,7 @@ fn check_fixups(
     taken: &mut Taken,
     offset: u32,
     fixups: &[u32],
-) -> Result<(), TestErr>
+) -> Result<(), ReadErr>
     requires below { All (λ h. h.vaddr + h.memsz < 2 ^ 32) loads.now }
     requires fits { offset + 4 * length fixups.now < 2 ^ 32 }
     ensures { (sites : List Site) → Has taken.old sites → Passes result (spec.fixup_tests loads.now sites offset fixups.now) }
@@ -45,7 +45,7 @@ pub fn read_fixups(
     loads: &[ProgramHeader],
     taken: &mut Taken,
     list: Option<u16>,
-) -> Result<Option<Words>, TestErr>
+) -> Result<Option<Words>, ReadErr>
     requires small { length bytes.now < 2 ^ 32 }
     requires long { EHDR_SIZE ≤ length bytes.now }
     requires list { IfSome list (IsFixupList bytes.now) }

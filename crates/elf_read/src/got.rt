@@ -12,7 +12,7 @@ ghost use Rattle.elf_model.specs.Relocations.{is_in_place, got_header};
 ghost use Rattle.elf_read.specs.Passes.{Reads};
 
 use crate::dynamic::value_of;
-use crate::error::TestErr;
+use crate::error::ReadErr;
 use crate::refuse::refusal;
 use crate::sections::listed_got;
 use crate::sites::is_in_place;
@@ -31,7 +31,7 @@ pub fn got_header(got: u32) -> Site
 
 /// The test of the GOT, whose faults are reported at an offset of the file.
 #[tactic(auto, unfolding(elf_model::specs::Fields::is_got_place, elf_model::specs::Relocations::is_in_place))]
-pub fn check_got(loads: &[ProgramHeader], got: Option<u32>, offset: u32) -> Result<u32, TestErr>
+pub fn check_got(loads: &[ProgramHeader], got: Option<u32>, offset: u32) -> Result<u32, ReadErr>
     ensures tests { Reads (λ g. g) result (refuses kinds.NoGot offset (not (option_map_or (is_got_place loads.now) got false)) ∷ []) (unwrap_or got 0) }
     ensures in_place { IfOk result (λ g. is_in_place loads.now (got_header g) ≡ true) }
 {

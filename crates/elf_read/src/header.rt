@@ -5,13 +5,13 @@ ghost use Rattle.elf_model.specs.Header as spec;
 ghost use Rattle.elf_read.specs.SectionTable.{HasSectionTable};
 ghost use Rattle.elf_read.specs.Passes.{Passes};
 
-use crate::error::TestErr;
+use crate::error::ReadErr;
 use crate::refuse::refuse;
-use elf_model::{ElfKind, Kind};
 use elf_model::constants::{
     EF_ARM_EABI_VERSION, EHDR_SIZE, ELFOSABI_ARM_FDPIC, EM_ARM, ET_DYN, ET_EXEC, PHDR_SIZE,
     SHDR_SIZE,
 };
+use elf_model::{ElfKind, Kind};
 use fd_base::{half_in, word_in};
 
 /// The first bytes: the magic number, 32 bits, little-endian, version 1, and the OS/ABI.
@@ -26,7 +26,7 @@ pub fn passes_end(bytes: &[u8], offset: u32, n: usize) -> bool
 }
 
 #[tactic(auto, unfolding(elf_model::specs::Header::size_tests))]
-fn check_size(bytes: &[u8]) -> Result<(), TestErr>
+fn check_size(bytes: &[u8]) -> Result<(), ReadErr>
     requires { length bytes.now < 2 ^ 32 }
     ensures tests { Passes result (spec.size_tests bytes.now) }
     ensures long { OnOk result (EHDR_SIZE ≤ length bytes.now) }
@@ -36,7 +36,7 @@ fn check_size(bytes: &[u8]) -> Result<(), TestErr>
 }
 
 #[tactic(auto, unfolding(elf_model::specs::Header::ident_tests))]
-fn check_ident(bytes: &[u8]) -> Result<(), TestErr>
+fn check_ident(bytes: &[u8]) -> Result<(), ReadErr>
     requires { EHDR_SIZE ≤ length bytes.now }
     ensures { Passes result (spec.ident_tests bytes.now) }
 {
@@ -47,7 +47,7 @@ fn check_ident(bytes: &[u8]) -> Result<(), TestErr>
 }
 
 #[tactic(auto, unfolding(elf_model::specs::Header::machine_tests))]
-fn check_machine(bytes: &[u8]) -> Result<(), TestErr>
+fn check_machine(bytes: &[u8]) -> Result<(), ReadErr>
     requires { EHDR_SIZE ≤ length bytes.now }
     ensures { Passes result (spec.machine_tests bytes.now) }
 {
@@ -61,7 +61,7 @@ fn check_machine(bytes: &[u8]) -> Result<(), TestErr>
 }
 
 #[tactic(auto, unfolding(elf_model::specs::Header::type_tests))]
-fn check_type(bytes: &[u8]) -> Result<(), TestErr>
+fn check_type(bytes: &[u8]) -> Result<(), ReadErr>
     requires { EHDR_SIZE ≤ length bytes.now }
     ensures { Passes result (spec.type_tests bytes.now) }
 {
@@ -71,7 +71,7 @@ fn check_type(bytes: &[u8]) -> Result<(), TestErr>
 }
 
 #[tactic(auto, unfolding(elf_model::specs::Header::program_table_tests))]
-fn check_program_table(bytes: &[u8]) -> Result<(), TestErr>
+fn check_program_table(bytes: &[u8]) -> Result<(), ReadErr>
     requires { EHDR_SIZE ≤ length bytes.now }
     ensures tests { Passes result (spec.program_table_tests bytes.now) }
     ensures table { OnOk result (spec.e_phoff bytes.now + PHDR_SIZE * spec.e_phnum bytes.now ≤ length bytes.now) }
@@ -88,7 +88,7 @@ fn check_program_table(bytes: &[u8]) -> Result<(), TestErr>
 }
 
 #[tactic(auto, unfolding(elf_model::specs::Header::section_table_tests))]
-fn check_section_table(bytes: &[u8]) -> Result<(), TestErr>
+fn check_section_table(bytes: &[u8]) -> Result<(), ReadErr>
     requires { EHDR_SIZE ≤ length bytes.now }
     ensures tests { Passes result (spec.section_table_tests bytes.now) }
     ensures sections { OnOk result (HasSectionTable bytes.now) }
@@ -109,7 +109,7 @@ fn check_section_table(bytes: &[u8]) -> Result<(), TestErr>
 
 /// The tests of the header.
 #[tactic(auto, using(elf_model::proofs::Tests::passed_over, elf_model::proofs::Tests::fails_first), unfolding(elf_model::specs::Header::header_tests))]
-pub fn check_header(bytes: &[u8]) -> Result<(), TestErr>
+pub fn check_header(bytes: &[u8]) -> Result<(), ReadErr>
     requires { length bytes.now < 2 ^ 32 }
     ensures tests { Passes result (spec.header_tests bytes.now) }
     ensures long { OnOk result (EHDR_SIZE ≤ length bytes.now) }

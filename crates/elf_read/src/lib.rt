@@ -1,4 +1,5 @@
-//! The reader of executables and shared objects. Bytes are accepted exactly where they are an object.
+//! The reader of executables and shared objects. Bytes are accepted exactly where they are an object, and refused by
+//! the first test that they fail.
 #![tactic(auto)]
 
 mod dynamic;
@@ -10,20 +11,17 @@ mod header;
 mod held;
 mod names;
 mod object;
-mod plain;
 mod refuse;
 mod relocations;
-mod segments;
 mod sections;
+mod segments;
 mod sites;
 mod strings;
+mod symbol_hash;
 mod symbols;
 mod tables;
-mod whole;
 
 pub use elf_model::{ElfKind, ElfRefusal};
 pub use error::ReadErr;
 pub use object::read_object;
-
-#[cfg(test)]
-mod tests;
+pub use symbol_hash::hash;

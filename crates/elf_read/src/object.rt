@@ -1,172 +1,265 @@
 //! The reader: each stage makes the next tests of the format and hands on what it read.
 
-ghost use Rattle.std.specs.Prelude.{◌≡◌, ◌≤◌, ◌-◌, ◌<◌, ◌^◌, ◌+◌, ◌*◌, List, ℕ, [], length, All, IfOk, OnOk, Ok, true};
-ghost use Rattle.elf_model.specs.declared.object.Object.{Object};
-ghost use Rattle.elf_model.specs.declared.table.DynEntry.{DynEntry};
+ghost use Rattle.std.specs.Prelude.{◌≡◌, ◌≤◌, ◌<◌, ◌^◌, ◌+◌, ◌-◌, ◌*◌, List, Option, Some, Ok, Err, ℕ, length, All, IfOk, IfSome, true};
+ghost use Rattle.fd_base.specs.declared.name.Name.{Name};
 ghost use Rattle.elf_model.specs.declared.object.Rel.{Rel};
-ghost use Rattle.elf_model.specs.Header.{e_phoff, e_phnum, e_shnum};
+ghost use Rattle.elf_model.specs.declared.object.Symbol.{Symbol};
+ghost use Rattle.elf_model.specs.declared.table.DynEntry.{DynEntry};
+ghost use Rattle.elf_model.specs.declared.table.RelEntry.{RelEntry};
+ghost use Rattle.elf_model.specs.Header.{e_phoff, e_phnum};
 ghost use Rattle.elf_model.specs.Segments as segment;
-ghost use Rattle.elf_model.specs.Relocations.{is_in_place, got_header, rels_of};
+ghost use Rattle.elf_model.specs.Sections as section;
+ghost use Rattle.elf_model.specs.Dynamic as dynamics;
+ghost use Rattle.elf_model.specs.Relocations as rel;
 ghost use Rattle.elf_model.specs.Fields as field;
-ghost use Rattle.elf_model.specs.Object.{object_of};
-ghost use Rattle.elf_model.specs.Plain.{IsPlainObject, has_plain_entries};
+ghost use Rattle.elf_model.specs.Object as spec;
+ghost use Rattle.elf_read.specs.SectionTable.{HasSectionTable, IsFixupList};
+ghost use Rattle.elf_model.specs.declared.object.Object.{Object};
+ghost use Rattle.elf_model.specs.declared.refusal.ElfRefusal.{ElfRefusal};
+ghost use Rattle.elf_model.specs.Object.{IsObject};
 ghost use Rattle.elf_model.specs.Sound.{IsSound};
-ghost use Rattle.elf_read.specs.Passes.{Passes, Reads};
-ghost use Rattle.elf_read.specs.Plain as spec;
+ghost use Rattle.elf_read.specs.declared.error.ReadErr.TheVariants.{Refused};
 ghost use Rattle.elf_read.specs.Reads.{IsReadAs, IsAnswer};
+ghost use Rattle.elf_read.specs.Passes.{Reads};
 
-use crate::dynamic::{check_entries, dynamic_entries, dynamic_offset_or, value_of};
-use crate::error::{ReadErr, TestErr};
-use crate::got::check_got;
+use crate::dynamic::{check_entries, dynamic_entries, dynamic_offset_or};
+use crate::error::ReadErr;
+use crate::fixups::read_fixups;
+use crate::flags::{inits_of, is_now, is_symbolic};
+use crate::got::{check_got, got_of};
 use crate::header::{check_header, kind_of};
-use crate::plain::{are_plain_entries, are_plain_slots, has_plain_headers};
-use crate::refuse::refuse;
+use crate::names::{read_needed, read_soname};
 use crate::relocations::{check_relocations, rels_of};
+use crate::sections::read_rofixup;
 use crate::segments::{read_loads, segments_of};
-use crate::tables::jmprel_entries;
-use elf_model::constants::{DT_PLTGOT, EHDR_SIZE, PHDR_SIZE};
-use elf_model::{DynEntry, ElfKind, Inits, Object, ProgramHeader, Rels, Segments, Symbols};
-use fd_base::{Names, half_in, word_in};
+use crate::strings::read_strings;
+use crate::symbols::{read_symbol_table, read_symbols};
+use crate::tables::{jmprel_entries, rel_entries};
+use elf_model::constants::{EHDR_SIZE, PHDR_SIZE};
+use elf_model::{DynEntry, Object, ProgramHeader, RelEntry, Rels, Symbols};
+use fd_base::{Name, Names, Words, word_in};
 use std::alloc::Global;
 
-#[tactic(auto, unfolding(crate::specs::Plain::header_conditions))]
-fn check_plain_headers(bytes: &[u8]) -> Result<(), TestErr>
+/// The GOT, which is in its place.
+#[tactic(auto, unfolding(elf_model::specs::Fields::got_tests, elf_model::specs::Fields::got))]
+fn read_got(
+    bytes: &[u8],
+    loads: &[ProgramHeader],
+    entries: &[DynEntry],
+    list: Option<u16>,
+) -> Result<u32, ReadErr>
     requires small { length bytes.now < 2 ^ 32 }
     requires long { EHDR_SIZE ≤ length bytes.now }
     requires table { e_phoff bytes.now + PHDR_SIZE * e_phnum bytes.now ≤ length bytes.now }
-    ensures tests { Passes result (spec.header_conditions bytes.now) }
-    ensures no_sections { OnOk result (e_shnum bytes.now ≡ 0) }
-{
-    let is_plain = has_plain_headers(bytes) && half_in(bytes, 48) == 0;
-    refuse(!is_plain, ElfKind::Header, 0)
-}
-
-/// The segments of a file of plain headers.
-#[tactic(auto, using(elf_model::proofs::Tests::passed_over, elf_model::proofs::Tests::fails_first), unfolding(crate::specs::Plain::start_tests))]
-fn read_start(alloc: Global, bytes: &[u8]) -> Result<Vec<ProgramHeader>, TestErr>
-    requires { length bytes.now < 2 ^ 32 }
-    ensures tests { Reads (λ v. v.items) result (spec.start_tests bytes.now) (segment.loads bytes.now) }
-    ensures long { OnOk result (EHDR_SIZE ≤ length bytes.now) }
-    ensures table { OnOk result (e_phoff bytes.now + PHDR_SIZE * e_phnum bytes.now ≤ length bytes.now) }
-    ensures in_file { IfOk result (λ v. All (segment.InFile (length bytes.now)) v.items) }
-    ensures below { IfOk result (λ v. All (λ h. h.vaddr + h.memsz < 2 ^ 32) v.items) }
-    ensures no_sections { OnOk result (e_shnum bytes.now ≡ 0) }
-{
-    check_header(bytes)?;
-    let loads = read_loads(alloc, bytes)?;
-    check_plain_headers(bytes)?;
-    Ok(loads)
-}
-
-#[tactic(auto, using(crate::proofs::Plainness::no_rofixup), unfolding(elf_model::specs::Fields::got_tests, elf_model::specs::Fields::got))]
-fn read_got(bytes: &[u8], loads: &[ProgramHeader], entries: &[DynEntry]) -> Result<u32, TestErr>
-    requires small { length bytes.now < 2 ^ 32 }
-    requires long { EHDR_SIZE ≤ length bytes.now }
-    requires table { e_phoff bytes.now + PHDR_SIZE * e_phnum bytes.now ≤ length bytes.now }
-    requires no_sections { e_shnum bytes.now ≡ 0 }
+    requires list { IfSome list (IsFixupList bytes.now) }
     requires are_loads { loads.now ≡ segment.loads bytes.now }
     requires are_entries { entries.now ≡ field.entries bytes.now }
+    requires is_list { list ≡ section.rofixup bytes.now }
     ensures tests { Reads (λ g. g) result (field.got_tests bytes.now) (field.got_or_zero bytes.now) }
-    ensures in_place { IfOk result (λ g. is_in_place loads.now (got_header g) ≡ true) }
+    ensures in_place { IfOk result (λ g. rel.is_in_place loads.now (rel.got_header g) ≡ true) }
 {
     check_got(
         loads,
-        value_of(DT_PLTGOT, entries),
+        got_of(bytes, entries, list),
         dynamic_offset_or(bytes, 28),
     )
 }
 
-/// What the dynamic section says.
+/// What the dynamic section says, and the sections.
 #[derive(Drop)]
 struct Dynamic {
     entries: Vec<DynEntry>,
+    /// Which section lists the fixups.
+    list: Option<u16>,
     got: u32,
 }
 
-#[tactic(auto, using(elf_model::proofs::Tests::passed_over, elf_model::proofs::Tests::fails_first), unfolding(crate::specs::Plain::dynamic_tests, crate::specs::Plain::entry_conditions, elf_model::specs::Fields::entries, elf_model::specs::Plain::has_plain_entries))]
-fn read_dynamic(alloc: Global, bytes: &[u8], loads: &[ProgramHeader]) -> Result<Dynamic, TestErr>
+/// The dynamic section, the list of fixups and the GOT.
+#[tactic(auto, using(elf_model::proofs::Tests::passed_over, elf_model::proofs::Tests::fails_first), unfolding(elf_model::specs::Object::dynamic_tests, elf_model::specs::Fields::entries))]
+fn read_dynamic(alloc: Global, bytes: &[u8], loads: &[ProgramHeader]) -> Result<Dynamic, ReadErr>
     requires small { length bytes.now < 2 ^ 32 }
     requires long { EHDR_SIZE ≤ length bytes.now }
     requires table { e_phoff bytes.now + PHDR_SIZE * e_phnum bytes.now ≤ length bytes.now }
+    requires sections { HasSectionTable bytes.now }
     requires in_file { All (segment.InFile (length bytes.now)) loads.now }
-    requires no_sections { e_shnum bytes.now ≡ 0 }
     requires are_loads { loads.now ≡ segment.loads bytes.now }
-    ensures tests { Reads {Y = List DynEntry × ℕ} (λ d. (d.entries.items, d.got)) result (spec.dynamic_tests bytes.now) (field.entries bytes.now, field.got_or_zero bytes.now) }
-    ensures in_place { IfOk result (λ d. is_in_place loads.now (got_header d.got) ≡ true) }
-    ensures plain { OnOk result (has_plain_entries bytes.now ≡ true) }
+    ensures tests { Reads {Y = List DynEntry × Option ℕ × ℕ} (λ d. (d.entries.items, d.list, d.got)) result (spec.dynamic_tests bytes.now) (field.entries bytes.now, section.rofixup bytes.now, field.got_or_zero bytes.now) }
+    ensures list { IfOk result (λ d. IfSome d.list (IsFixupList bytes.now)) }
+    ensures in_place { IfOk result (λ d. rel.is_in_place loads.now (rel.got_header d.got) ≡ true) }
 {
     let entries = dynamic_entries(alloc, bytes, loads)?;
     check_entries(&entries)?;
-    refuse(!are_plain_entries(&entries), ElfKind::Header, 0)?;
-    let got = read_got(bytes, loads, &entries)?;
-    Ok(Dynamic { entries, got })
+    let list = read_rofixup(bytes)?;
+    let got = read_got(bytes, loads, &entries, list)?;
+    Ok(Dynamic { entries, list, got })
 }
 
-/// The slots.
-#[tactic(auto, using(elf_model::proofs::Tests::passed_over, elf_model::proofs::Tests::fails_first), unfolding(crate::specs::Plain::slot_tests, crate::specs::Plain::slot_conditions, elf_model::specs::Fields::jmprel_entries))]
-fn read_slots(
+/// The symbols and the names of objects.
+#[derive(Drop)]
+struct Named {
+    symbol_count: u32,
+    symbols: Symbols,
+    needed: Names,
+    soname: Option<Name>,
+}
+
+/// The strings, the symbols and the names of objects.
+#[tactic(auto, using(elf_model::proofs::Tests::passed_over, elf_model::proofs::Tests::fails_first), unfolding(elf_model::specs::Object::name_tests, elf_model::specs::Fields::strings, elf_model::specs::Fields::symbol_count, elf_model::specs::Fields::symbols_offset, elf_model::specs::Fields::symbols))]
+fn read_names(
+    alloc: Global,
+    bytes: &[u8],
+    loads: &[ProgramHeader],
+    entries: &[DynEntry],
+) -> Result<Named, ReadErr>
+    requires small { length bytes.now < 2 ^ 32 }
+    requires long { EHDR_SIZE ≤ length bytes.now }
+    requires table { e_phoff bytes.now + PHDR_SIZE * e_phnum bytes.now ≤ length bytes.now }
+    requires sections { HasSectionTable bytes.now }
+    requires in_file { All (segment.InFile (length bytes.now)) loads.now }
+    requires are_loads { loads.now ≡ segment.loads bytes.now }
+    requires are_entries { entries.now ≡ field.entries bytes.now }
+    ensures { Reads {Y = ℕ × List Symbol × List Name × Option Name} (λ n. (n.symbol_count, n.symbols, n.needed, n.soname)) result (spec.name_tests bytes.now) (field.symbol_count bytes.now, field.symbols bytes.now, dynamics.needed_of (field.strings bytes.now) (field.entries bytes.now), dynamics.soname_of (field.strings bytes.now) (field.entries bytes.now)) }
+{
+    let strings = read_strings(bytes, loads, entries)?;
+    let table = read_symbol_table(bytes, loads, entries, dynamic_offset_or(bytes, 28))?;
+    let symbols = read_symbols(alloc, bytes, loads, strings, &table)?;
+    let needed = read_needed(alloc, strings, entries)?;
+    let soname = read_soname(alloc, strings, entries)?;
+    Ok(Named {
+        symbol_count: table.count,
+        symbols,
+        needed,
+        soname,
+    })
+}
+
+/// The entries of the two tables of relocations.
+#[derive(Drop)]
+struct Tables {
+    own: Vec<RelEntry>,
+    slots: Vec<RelEntry>,
+}
+
+/// Both tables of relocations.
+#[tactic(auto, using(elf_model::proofs::Tests::passed_over, elf_model::proofs::Tests::fails_first), unfolding(elf_model::specs::Relocations::both_table_tests))]
+fn read_tables(
+    alloc: Global,
+    bytes: &[u8],
+    loads: &[ProgramHeader],
+    entries: &[DynEntry],
+) -> Result<Tables, ReadErr>
+    requires small { length bytes.now < 2 ^ 32 }
+    requires in_file { All (segment.InFile (length bytes.now)) loads.now }
+    ensures { Reads {Y = List RelEntry × List RelEntry} (λ t. (t.own.items, t.slots.items)) result (rel.both_table_tests loads.now entries.now) (rel.rel_entries bytes.now loads.now entries.now, rel.jmprel_entries bytes.now loads.now entries.now) }
+{
+    let own = rel_entries(alloc, bytes, loads, entries)?;
+    let slots = jmprel_entries(alloc, bytes, loads, entries)?;
+    Ok(Tables { own, slots })
+}
+
+/// The relocations and the fixups.
+#[derive(Drop)]
+struct Relocations {
+    rels: Rels,
+    jmprels: Rels,
+    fixups: Option<Words>,
+}
+
+/// The relocations and the fixups, none of which meets another.
+#[tactic(auto, using(elf_model::proofs::Tests::passed_over, elf_model::proofs::Tests::fails_first, crate::proofs::Listed::fixup_tests_are), unfolding(elf_model::specs::Object::relocation_tests, elf_model::specs::Fields::rel_entries, elf_model::specs::Fields::jmprel_entries, elf_model::specs::Fields::all_rel_entries, elf_model::specs::Fields::fixups))]
+fn read_relocations(
     alloc: Global,
     bytes: &[u8],
     loads: &[ProgramHeader],
     dynamic: &Dynamic,
-    segments: &Segments,
-) -> Result<Rels, TestErr>
+    symbol_count: u32,
+) -> Result<Relocations, ReadErr>
     requires small { length bytes.now < 2 ^ 32 }
+    requires long { EHDR_SIZE ≤ length bytes.now }
     requires in_file { All (segment.InFile (length bytes.now)) loads.now }
     requires below { All (λ h. h.vaddr + h.memsz < 2 ^ 32) loads.now }
-    requires in_place { is_in_place loads.now (got_header dynamic.now.got) ≡ true }
+    requires list { IfSome dynamic.now.list (IsFixupList bytes.now) }
+    requires in_place { rel.is_in_place loads.now (rel.got_header dynamic.now.got) ≡ true }
     requires are_loads { loads.now ≡ segment.loads bytes.now }
     requires are_entries { dynamic.now.entries.items ≡ field.entries bytes.now }
+    requires is_list { dynamic.now.list ≡ section.rofixup bytes.now }
     requires is_got { dynamic.now.got ≡ field.got_or_zero bytes.now }
-    requires are_segments { segments.now ≡ segment.segments bytes.now }
-    ensures { Reads (λ r. r) result (spec.slot_tests bytes.now) (rels_of (field.jmprel_entries bytes.now)) }
+    requires is_count { symbol_count ≡ field.symbol_count bytes.now }
+    ensures { Reads {Y = List Rel × List Rel × Option (List ℕ)} (λ r. (r.rels, r.jmprels, r.fixups)) result (spec.relocation_tests bytes.now) (rel.rels_of (field.rel_entries bytes.now), rel.rels_of (field.jmprel_entries bytes.now), field.fixups bytes.now) }
 {
-    let entries = jmprel_entries(alloc, bytes, loads, &dynamic.entries)?;
-    let _taken = check_relocations(alloc, loads, 0, dynamic.got, &entries)?;
-    let slots = rels_of(alloc, &entries)?;
-    let is_plain = are_plain_slots(segments.as_slice(), slots.as_slice());
-    refuse(!is_plain, ElfKind::Header, 0)?;
-    Ok(slots)
+    let tables = read_tables(alloc, bytes, loads, &dynamic.entries)?;
+    let rels = rels_of(alloc, &tables.own)?;
+    let jmprels = rels_of(alloc, &tables.slots)?;
+    let Tables {
+        own: mut all,
+        slots,
+    } = tables;
+    all.extend_from_slice(&slots)?;
+    let mut taken = check_relocations(alloc, loads, symbol_count, dynamic.got, &all)?;
+    let fixups = read_fixups(alloc, bytes, loads, &mut taken, dynamic.list)?;
+    Ok(Relocations {
+        rels,
+        jmprels,
+        fixups,
+    })
 }
 
-/// The object of a plain file.
-#[tactic(auto, using(elf_model::proofs::Tests::passed_over, elf_model::proofs::Tests::fails_first, crate::proofs::Plainness::plain_fields), unfolding(crate::specs::Plain::plain_tests))]
-fn plain_object(alloc: Global, bytes: &[u8]) -> Result<Object, TestErr>
+/// The object that the bytes are.
+#[tactic(auto, using(elf_model::proofs::Tests::passed_over, elf_model::proofs::Tests::fails_first), unfolding(elf_model::specs::Object::tests, elf_model::specs::Object::object_of))]
+fn object(alloc: Global, bytes: &[u8]) -> Result<Object, ReadErr>
     requires { length bytes.now < 2 ^ 32 }
-    ensures { Reads (λ o. o) result (spec.plain_tests bytes.now) (object_of bytes.now) }
+    ensures { Reads (λ o. o) result (spec.tests bytes.now) (spec.object_of bytes.now) }
 {
-    let loads = read_start(alloc, bytes)?;
+    check_header(bytes)?;
+    let loads = read_loads(alloc, bytes)?;
     let dynamic = read_dynamic(alloc, bytes, &loads)?;
+    let named = read_names(alloc, bytes, &loads, &dynamic.entries)?;
+    let relocations = read_relocations(alloc, bytes, &loads, &dynamic, named.symbol_count)?;
     let segments = segments_of(alloc, bytes, &loads)?;
-    let jmprels = read_slots(alloc, bytes, &loads, &dynamic, &segments)?;
+    let Dynamic {
+        entries,
+        list: _,
+        got,
+    } = dynamic;
+    let Named {
+        symbol_count: _,
+        symbols,
+        needed,
+        soname,
+    } = named;
+    let Relocations {
+        rels,
+        jmprels,
+        fixups,
+    } = relocations;
     Ok(Object {
         kind: kind_of(bytes),
         entry: word_in(bytes, 24),
         segments,
-        got: dynamic.got,
-        needed: Names::new(alloc),
-        soname: None,
-        symbols: Symbols::new(alloc),
-        rels: Rels::new(alloc),
+        got,
+        needed,
+        soname,
+        symbols,
+        rels,
         jmprels,
-        fixups: None,
-        symbolic: false,
-        now: false,
-        inits: Inits {
-            init: None,
-            fini: None,
-            init_array: None,
-            fini_array: None,
-        },
+        fixups,
+        symbolic: is_symbolic(&entries),
+        now: is_now(&entries),
+        inits: inits_of(&entries),
     })
 }
 
-/// Reads an object from the bytes of its file. `NotBuilt` comes exactly where the bytes are no plain object.
+/// Reads an object from the bytes of its file. `Refused` comes exactly where the bytes are no object, with the first
+/// test that they fail.
 pub fn read_object(alloc: Global, bytes: &[u8]) -> Result<Object, ReadErr>
     requires { length bytes.now < 2 ^ 32 - 1 }
     ensures read { IsReadAs bytes.now result }
-    ensures only { (o : Object) → IsPlainObject bytes.now o → IsAnswer result (Ok o) }
+
+    // Both answers are the only ones, unless memory is wanted.
+    ensures only { (o : Object) → IsObject bytes.now o → IsAnswer result (Ok o) }
+    ensures first { (r : ElfRefusal) → spec.refusal_of bytes.now ≡ Some r → IsAnswer result (Err (Refused r)) }
+
     ensures sound { IfOk result IsSound }
 {
-    Ok(plain_object(alloc, bytes)?)
+    object(alloc, bytes)
 }

@@ -2,20 +2,20 @@
 
 ghost use Rattle.std.specs.Prelude.{◌≡◌};
 ghost use Rattle.elf_read.specs.Passes.{Refuses};
-ghost use Rattle.elf_read.specs.declared.error.TestErr.TheVariants.{Refused};
+ghost use Rattle.elf_read.specs.declared.error.ReadErr.TheVariants.{Refused};
 
-use crate::error::TestErr;
+use crate::error::ReadErr;
 use elf_model::{ElfKind, ElfRefusal};
 
 /// The refusal of this kind at an offset of the file.
-pub fn refusal(kind: ElfKind, at: u32) -> TestErr
+pub fn refusal(kind: ElfKind, at: u32) -> ReadErr
     ensures { result ≡ Refused (record { kind = kind; at = at }) }
 {
-    TestErr::Refused(ElfRefusal { kind, at })
+    ReadErr::Refused(ElfRefusal { kind, at })
 }
 
 /// The same, where a test fails.
-pub fn refuse(fails: bool, kind: ElfKind, at: u32) -> Result<(), TestErr>
+pub fn refuse(fails: bool, kind: ElfKind, at: u32) -> Result<(), ReadErr>
     ensures { Refuses result fails kind at }
 {
     if fails {

@@ -6,7 +6,7 @@ ghost use Rattle.elf_model.specs.Relocations as spec;
 ghost use Rattle.elf_read.specs.Taken.{Has};
 ghost use Rattle.elf_read.specs.Passes.{Passes, Gives};
 
-use crate::error::TestErr;
+use crate::error::ReadErr;
 use crate::got::got_header;
 use crate::refuse::refuse;
 use crate::sites::Taken;
@@ -58,7 +58,7 @@ fn check_entry(
     symbol_count: u32,
     taken: &mut Taken,
     e: &RelEntry,
-) -> Result<(), TestErr>
+) -> Result<(), ReadErr>
     requires below { All (λ h. h.vaddr + h.memsz < 2 ^ 32) loads.now }
     ensures tests { (sites : List Site) → Has taken.old sites → Passes result (spec.rel_entry_tests loads.now symbol_count sites e.now) }
     ensures taken { OnOk result ((sites : List Site) → Has taken.old sites → Has taken.new (sites ++ spec.sites_of (e.now ∷ []))) }
@@ -83,7 +83,7 @@ pub fn check_relocations(
     symbol_count: u32,
     got: u32,
     entries: &[RelEntry],
-) -> Result<Taken, TestErr>
+) -> Result<Taken, ReadErr>
     requires below { All (λ h. h.vaddr + h.memsz < 2 ^ 32) loads.now }
     requires got { spec.is_in_place loads.now (spec.got_header got) ≡ true }
     ensures { Gives result (spec.all_rel_tests loads.now symbol_count got entries.now) (λ t. Has t (spec.got_header got ∷ spec.sites_of entries.now)) }

@@ -6,7 +6,7 @@ ghost use Rattle.elf_model.specs.Sections as spec;
 ghost use Rattle.elf_read.specs.SectionTable.{HasSectionTable, IsFixupList, is_symbols_at};
 ghost use Rattle.elf_read.specs.Passes.{Reads};
 
-use crate::error::TestErr;
+use crate::error::ReadErr;
 use crate::header::passes_end;
 use crate::refuse::refuse;
 use crate::strings::text_at;
@@ -100,7 +100,7 @@ fn rofixup_place(bytes: &[u8]) -> Option<u16>
 
 /// The test of the list of fixups, and which section has it.
 #[tactic(auto, unfolding(elf_model::specs::Sections::rofixup, elf_model::specs::Sections::rofixup_tests))]
-pub fn read_rofixup(bytes: &[u8]) -> Result<Option<u16>, TestErr>
+pub fn read_rofixup(bytes: &[u8]) -> Result<Option<u16>, ReadErr>
     requires small { length bytes.now < 2 ^ 32 }
     requires long { EHDR_SIZE ≤ length bytes.now }
     requires table { HasSectionTable bytes.now }

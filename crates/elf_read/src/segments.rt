@@ -7,7 +7,7 @@ ghost use Rattle.elf_model.specs.Segments as spec;
 ghost use Rattle.elf_model.specs.Object.{all_segment_tests};
 ghost use Rattle.elf_read.specs.Passes.{Passes, Reads};
 
-use crate::error::TestErr;
+use crate::error::ReadErr;
 use crate::refuse::refuse;
 use elf_model::constants::{EHDR_SIZE, MAX_SEGMENTS, PHDR_SIZE, PT_LOAD, PT_TLS};
 use elf_model::{ElfKind, ProgramHeader, Segment, Segments};
@@ -86,7 +86,7 @@ fn check_program_header(
     offset: u32,
     h: &ProgramHeader,
     earlier: &[ProgramHeader],
-) -> Result<(), TestErr>
+) -> Result<(), ReadErr>
     ensures tests { Passes result (spec.program_header_tests len offset h.now earlier.now) }
     ensures in_file { OnOk result (true ≡ spec.is_load h.now → spec.InFile len h.now) }
     ensures below { OnOk result (true ≡ spec.is_load h.now → h.now.vaddr + h.now.memsz < 2 ^ 32) }
@@ -101,7 +101,7 @@ fn check_program_header(
 }
 
 /// The headers of the segments with memory, in order.
-fn loads(alloc: Global, bytes: &[u8]) -> Result<Vec<ProgramHeader>, TestErr>
+fn loads(alloc: Global, bytes: &[u8]) -> Result<Vec<ProgramHeader>, ReadErr>
     requires small { length bytes.now < 2 ^ 32 }
     requires long { EHDR_SIZE ≤ length bytes.now }
     requires table { e_phoff bytes.now + PHDR_SIZE * e_phnum bytes.now ≤ length bytes.now }
@@ -122,7 +122,7 @@ fn loads(alloc: Global, bytes: &[u8]) -> Result<Vec<ProgramHeader>, TestErr>
 
 /// The segments, of which there is at least one.
 #[tactic(auto, using(elf_model::proofs::Tests::passed_over, elf_model::proofs::Tests::fails_first), unfolding(elf_model::specs::Object::all_segment_tests, elf_model::specs::Segments::some_segment_tests))]
-pub fn read_loads(alloc: Global, bytes: &[u8]) -> Result<Vec<ProgramHeader>, TestErr>
+pub fn read_loads(alloc: Global, bytes: &[u8]) -> Result<Vec<ProgramHeader>, ReadErr>
     requires small { length bytes.now < 2 ^ 32 }
     requires long { EHDR_SIZE ≤ length bytes.now }
     requires table { e_phoff bytes.now + PHDR_SIZE * e_phnum bytes.now ≤ length bytes.now }

@@ -8,7 +8,7 @@ ghost use Rattle.elf_model.specs.declared.table.Site.{Site};
 ghost use Rattle.elf_model.specs.Relocations as spec;
 ghost use Rattle.elf_read.specs.Passes.{Passes};
 
-use crate::error::TestErr;
+use crate::error::ReadErr;
 use crate::held::is_writable_at;
 use crate::refuse::refuse;
 use elf_model::{ElfKind, ProgramHeader, Site};
@@ -78,7 +78,7 @@ impl Taken {
     }
 
     #[tactic(auto, unfolding(elf_model::specs::Relocations::site_tests))]
-    fn check(&self, loads: &[ProgramHeader], site: &Site, offset: u32) -> Result<(), TestErr>
+    fn check(&self, loads: &[ProgramHeader], site: &Site, offset: u32) -> Result<(), ReadErr>
         requires below { All (λ h. h.vaddr + h.memsz < 2 ^ 32) loads.now }
         requires whole { IsWhole site.now }
         ensures tests { (sites : List Site) → Has self.now sites → Passes result (spec.site_tests loads.now sites offset site.now) }
@@ -89,7 +89,7 @@ impl Taken {
     }
 
     /// The tests of a site that is named at an offset of the file. Its words are taken where it passes them.
-    pub fn fill(&mut self, loads: &[ProgramHeader], site: &Site, offset: u32) -> Result<(), TestErr>
+    pub fn fill(&mut self, loads: &[ProgramHeader], site: &Site, offset: u32) -> Result<(), ReadErr>
         requires below { All (λ h. h.vaddr + h.memsz < 2 ^ 32) loads.now }
         requires whole { IsWhole site.now }
         ensures tests { (sites : List Site) → Has self.old sites → Passes result (spec.site_tests loads.now sites offset site.now) }

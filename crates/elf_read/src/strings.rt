@@ -8,7 +8,7 @@ ghost use Rattle.elf_read.specs.Strings.{IsString};
 ghost use Rattle.elf_read.specs.Passes.{Reads};
 
 use crate::dynamic::{first_of, value_of};
-use crate::error::TestErr;
+use crate::error::ReadErr;
 use crate::held::held_at;
 use crate::refuse::refusal;
 use elf_model::constants::{DT_STRSZ, DT_STRTAB};
@@ -111,7 +111,7 @@ pub fn read_strings<'a>(
     bytes: &'a [u8],
     loads: &[ProgramHeader],
     entries: &[DynEntry],
-) -> Result<&'a [u8], TestErr>
+) -> Result<&'a [u8], ReadErr>
     requires { All (InFile (length bytes.now)) loads.now }
     ensures { Reads (λ s. s.now) result (dynamic.string_tests bytes.now loads.now entries.now) (dynamic.strings_of bytes.now loads.now entries.now) }
 {

@@ -9,7 +9,7 @@ ghost use Rattle.elf_read.specs.SectionTable.{HasSectionTable};
 ghost use Rattle.elf_read.specs.Passes.{Passes, Reads};
 
 use crate::dynamic::first_of;
-use crate::error::TestErr;
+use crate::error::ReadErr;
 use crate::held::{held_at, is_executable_at};
 use crate::refuse::{refusal, refuse};
 use crate::sections::section_symbol_count;
@@ -45,12 +45,7 @@ fn hash_symbol_count(bytes: &[u8], loads: &[ProgramHeader], hash: &DynEntry) -> 
 
 /// The number of symbols at a link address: by the hash table, or else by the section that has them.
 #[tactic(auto, unfolding(elf_model::specs::Symbols::count_of))]
-fn count_of(
-    bytes: &[u8],
-    loads: &[ProgramHeader],
-    entries: &[DynEntry],
-    addr: u32,
-) -> Option<u32>
+fn count_of(bytes: &[u8], loads: &[ProgramHeader], entries: &[DynEntry], addr: u32) -> Option<u32>
     requires small { length bytes.now < 2 ^ 32 }
     requires long { EHDR_SIZE ≤ length bytes.now }
     requires sections { HasSectionTable bytes.now }
@@ -65,12 +60,16 @@ fn count_of(
 
 /// The test of the hash table, as far as it is read.
 #[tactic(auto, unfolding(elf_model::specs::Symbols::hash_tests))]
-fn check_hash(loads: &[ProgramHeader], entries: &[DynEntry]) -> Result<(), TestErr>
+fn check_hash(loads: &[ProgramHeader], entries: &[DynEntry]) -> Result<(), ReadErr>
     ensures { (bytes : List ℕ) → Passes result (spec.hash_tests bytes loads.now entries.now) }
 {
     match first_of(DT_HASH, entries) {
         None => Ok(()),
-        Some(hash) => refuse(held_at(loads, hash.value, 8).is_none(), ElfKind::Table, hash.offset),
+        Some(hash) => refuse(
+            held_at(loads, hash.value, 8).is_none(),
+            ElfKind::Table,
+            hash.offset,
+        ),
     }
 }
 
@@ -83,7 +82,7 @@ fn symbol_table(
     entries: &[DynEntry],
     dynamic: u32,
     table: &DynEntry,
-) -> Result<SymbolTable, TestErr>
+) -> Result<SymbolTable, ReadErr>
     requires small { length bytes.now < 2 ^ 32 }
     requires long { EHDR_SIZE ≤ length bytes.now }
     requires sections { HasSectionTable bytes.now }
@@ -109,7 +108,7 @@ pub fn read_symbol_table(
     loads: &[ProgramHeader],
     entries: &[DynEntry],
     dynamic: u32,
-) -> Result<SymbolTable, TestErr>
+) -> Result<SymbolTable, ReadErr>
     requires small { length bytes.now < 2 ^ 32 }
     requires long { EHDR_SIZE ≤ length bytes.now }
     requires sections { HasSectionTable bytes.now }
@@ -160,14 +159,18 @@ fn has_function_place(loads: &[ProgramHeader], e: &SymbolEntry) -> bool
 }
 
 /// The tests of a function's place.
-fn check_function(loads: &[ProgramHeader], e: &SymbolEntry) -> Result<(), TestErr>
+fn check_function(loads: &[ProgramHeader], e: &SymbolEntry) -> Result<(), ReadErr>
     ensures { Passes result (function_tests loads.now e.now) }
 {
     if !is_defined_function(e) {
         return Ok(());
     }
     refuse(e.value % 2 == 1, ElfKind::Thumb, e.offset)?;
-    refuse(!has_function_place(loads, e), ElfKind::FunctionPlace, e.offset)
+    refuse(
+        !has_function_place(loads, e),
+        ElfKind::FunctionPlace,
+        e.offset,
+    )
 }
 
 fn place_of(section: u16) -> Place
@@ -187,7 +190,7 @@ fn read_symbol(
     loads: &[ProgramHeader],
     strings: &[u8],
     e: &SymbolEntry,
-) -> Result<Symbol, TestErr>
+) -> Result<Symbol, ReadErr>
     ensures { Reads (λ s. s) result (spec.symbol_tests loads.now strings.now e.now) (spec.symbol_of strings.now e.now) }
 {
     let Some(text) = string_at(strings, e.name) else {
@@ -230,7 +233,7 @@ pub fn read_symbols(
     loads: &[ProgramHeader],
     strings: &[u8],
     table: &SymbolTable,
-) -> Result<Symbols, TestErr>
+) -> Result<Symbols, ReadErr>
     requires small { length bytes.now < 2 ^ 32 }
     requires inside { table.now.offset + SYM_SIZE * table.now.count ≤ length bytes.now }
     ensures { Reads (λ s. s) result (spec.all_symbol_tests bytes.now loads.now strings.now table.now.offset table.now.count) (spec.symbols_of bytes.now strings.now table.now.offset table.now.count) }

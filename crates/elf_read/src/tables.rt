@@ -7,7 +7,7 @@ ghost use Rattle.elf_read.specs.Tables as tables;
 ghost use Rattle.elf_read.specs.Passes.{Reads};
 
 use crate::dynamic::{first_of, value_of};
-use crate::error::TestErr;
+use crate::error::ReadErr;
 use crate::held::held_at;
 use crate::refuse::{refusal, refuse};
 use elf_model::constants::{DT_JMPREL, DT_PLTRELSZ, DT_REL, DT_RELSZ, MAX_ENTRIES, REL_SIZE};
@@ -52,7 +52,7 @@ fn range_of(
     entries: &[DynEntry],
     table_tag: u32,
     size_tag: u32,
-) -> Result<Option<RelRange>, TestErr>
+) -> Result<Option<RelRange>, ReadErr>
     ensures tests { Reads (λ r. r) result (spec.rel_table_tests loads.now entries.now table_tag size_tag) (tables.range_of loads.now entries.now table_tag size_tag) }
     ensures in_file { (len : ℕ) → All (InFile len) loads.now → IfOk result (λ r. IfSome r (λ r. r.offset + r.size ≤ len)) }
 {
@@ -147,7 +147,7 @@ pub fn rel_entries(
     bytes: &[u8],
     loads: &[ProgramHeader],
     entries: &[DynEntry],
-) -> Result<Vec<RelEntry>, TestErr>
+) -> Result<Vec<RelEntry>, ReadErr>
     requires small { length bytes.now < 2 ^ 32 }
     requires in_file { All (InFile (length bytes.now)) loads.now }
     ensures { Reads (λ v. v.items) result (spec.rel_table_tests loads.now entries.now DT_REL DT_RELSZ) (spec.rel_entries bytes.now loads.now entries.now) }
@@ -168,7 +168,7 @@ pub fn jmprel_entries(
     bytes: &[u8],
     loads: &[ProgramHeader],
     entries: &[DynEntry],
-) -> Result<Vec<RelEntry>, TestErr>
+) -> Result<Vec<RelEntry>, ReadErr>
     requires small { length bytes.now < 2 ^ 32 }
     requires in_file { All (InFile (length bytes.now)) loads.now }
     ensures { Reads (λ v. v.items) result (spec.rel_table_tests loads.now entries.now DT_JMPREL DT_PLTRELSZ) (spec.jmprel_entries bytes.now loads.now entries.now) }

@@ -1,9 +1,9 @@
-use Rattle.std.proofs.Common.{◌≡◌, ℕ, List, ◌++◌, ◌∷◌, Option, None, refl, ap, ◌∙◌}
+use Rattle.std.proofs.Common.{◌≡◌, List, ◌++◌, ◌∷◌, refl, ap, ◌∙◌}
 use Rattle.elf_model.specs.declared.table.RelEntry.{RelEntry}
 use Rattle.elf_model.specs.Relocations as rel
 use Rattle.elf_model.specs.Fields as field
 use Rattle.elf_read.proofs.Listed.{relocations_hold, own_are, slots_are, fixups_are}
-use Rattle.elf_read.proofs.whole.read_relocations.Goals as goal
+use Rattle.elf_read.proofs.object.read_relocations.Goals as goal
 
 pub returns : goal.returns
 returns c =
@@ -26,8 +26,7 @@ returns c =
     c.in_ok-rels.ensures ∙ ap rel.rels_of (c.deref-2.ensures.value ∙ own_are bytes loads entries own c.requires.are_loads e_entries e_own) in
     let is_jmprels : c.in_ok-jmprels.jmprels ≡ rel.rels_of (field.jmprel_entries bytes) =
     c.in_ok-jmprels.ensures ∙ ap rel.rels_of (c.deref-3.ensures.value ∙ slots_are bytes loads entries slots c.requires.are_loads e_entries e_slots) in
-    let is_fixups : c.in_ok-fixups.fixups ≡ field.fixups bytes = fixups_are bytes list c.in_ok-fixups.fixups c.requires.is_list fixups.1 in
-    (
+    let is_fixups : c.in_ok-fixups.fixups ≡ field.fixups bytes = fixups_are bytes list c.in_ok-fixups.fixups c.requires.is_list fixups.1 in (
       relocations_hold bytes loads entries list got c.args.symbol_count own slots all c.requires.are_loads e_entries c.requires.is_list c.requires.is_got c.requires.is_count e_own e_slots e_all tables.0 rels.0 fixups.0,
       rw (is_rels, is_jmprels, is_fixups) refl,
     )
