@@ -24,3 +24,6 @@ pub use module::{
     RESOLVER, SlotPair,
 };
 pub use plan::{DESCRIPTOR_SIZE, DESCRIPTORS, MemPlan, PlaceLine, Places, THREADS};
+
+#[cfg(test)]
+mod tests;

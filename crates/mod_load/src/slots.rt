@@ -33,16 +33,16 @@ fn stored_word(load_map: &[MapEntry], image: &[Bytes], v: u32) -> u32
 }
 
 /// What slot `k` holds.
-pub fn slot_pair(module: &Module, k: u32) -> Option<SlotPair>
-    requires sound { IsSound module.now.object }
-    requires mapped { IsMapOf module.now.object.segments module.now.load_map }
-    requires ends { All EndsBelow module.now.load_map }
-    requires image { HasImage module.now }
-    ensures { result ≡ slice_get (slot_pairs_of module.now) k }
+pub fn slot_pair(live: &Module, k: u32) -> Option<SlotPair>
+    requires sound { IsSound live.now.object }
+    requires mapped { IsMapOf live.now.object.segments live.now.load_map }
+    requires ends { All EndsBelow live.now.load_map }
+    requires image { HasImage live.now }
+    ensures { result ≡ slice_get (slot_pairs_of live.now) k }
 {
-    let rel = module.object.jmprels.as_slice().get(k as usize)?;
-    let load_map = module.load_map.as_slice();
-    let image = module.image.as_slice();
+    let rel = live.object.jmprels.as_slice().get(k as usize)?;
+    let load_map = live.load_map.as_slice();
+    let image = live.image.as_slice();
     Some(SlotPair {
         addr: placed(load_map, rel.site),
         code: stored_word(load_map, image, rel.site),

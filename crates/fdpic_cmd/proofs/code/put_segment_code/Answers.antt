@@ -10,5 +10,5 @@ loop-k-preserved c =
     let k = c.loop-k.k in
     let word : c.word_in-word.result ≡ word_in s.filled (4 * k) = c.word_in-word.ensures ∙ ap (λ bytes. word_in bytes (4 * k)) c.as_slice-bytes.ensures in
     let put : c.put_code_line.new.out ≡ c.loop-k.out ++ segment_code_line s k
-          = c.in_ok-put_code_line.ensures ∙ ap (λ w. c.loop-k.out ++ code_line (s.vaddr + 4 * k) w) word in
+    = c.in_ok-put_code_line.ensures ∙ ap (λ w. c.loop-k.out ++ code_line (s.vaddr + 4 * k) w) word in
     put_more (segment_code_line s) k c.loop-k.out c.put_code_line.new.out c.args.out.now c.loop-k.invariant put

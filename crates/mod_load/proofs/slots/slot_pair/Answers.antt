@@ -21,4 +21,4 @@ returns c =
     let addr = rw c.as_slice-load_map.ensures at c.placed.ensures in
     let code = rw (c.as_slice-load_map.ensures, c.as_slice-image.ensures) at c.stored_word.ensures in
     let got = rw (c.as_slice-load_map.ensures, c.as_slice-image.ensures) at c.stored_word-2.ensures in
-    slot_is c.args.module.now _ _ _ _ _ c.requires.sound c.requires.mapped c.requires.ends c.requires.image lt is addr code got
+    slot_is c.args.live.now _ _ _ _ _ c.requires.sound c.requires.mapped c.requires.ends c.requires.image lt is addr code got
