@@ -1,4 +1,4 @@
-//! Loads of a plain object over stores in memory.
+//! Loads of small objects over stores in memory.
 
 ghost use Rattle.std.specs.Prelude.{◌≡◌, ◌*◌, ◌<◌, length, IfOk};
 ghost use Rattle.mod_load.specs.Loaded.{IsConsistent};
@@ -26,6 +26,16 @@ const OBJECT: [u32; 54] = [
 fn object(alloc: Global) -> Result<Vec<u8>, AllocError> {
     let mut bytes = Vec::new(alloc);
     for word in &OBJECT {
+        bytes.extend_from_slice(&word.to_le_bytes())?;
+    }
+    Ok(bytes)
+}
+
+/// The same with a data segment that is executable too.
+fn writable_text(alloc: Global) -> Result<Vec<u8>, AllocError> {
+    let mut bytes = Vec::new(alloc);
+    for (i, word) in OBJECT.iter().enumerate() {
+        let word = if i == 27 { 7 } else { *word };
         bytes.extend_from_slice(&word.to_le_bytes())?;
     }
     Ok(bytes)
@@ -69,6 +79,7 @@ enum Came {
     NoRoom(u32),
     NoFile,
     TooLong,
+    Elf(u32),
     NotBuilt,
     TooManyModules,
     Fault,
@@ -80,6 +91,7 @@ fn came_to(error: LoadErr) -> Came {
         LoadErr::Refused(LoadRefusal::NoRoom(i)) => Came::NoRoom(i),
         LoadErr::Refused(LoadRefusal::NoFile(_)) => Came::NoFile,
         LoadErr::Refused(LoadRefusal::TooLong(_)) => Came::TooLong,
+        LoadErr::Refused(LoadRefusal::Elf(_, refusal)) => Came::Elf(refusal.at),
         LoadErr::Refused(LoadRefusal::NotBuilt(_)) => Came::NotBuilt,
         LoadErr::Refused(LoadRefusal::TooManyModules) => Came::TooManyModules,
         LoadErr::StoreFault => Came::Fault,
@@ -127,10 +139,11 @@ fn first_loads(rt: HostRuntime) -> Result<(), Fail> {
     let bytes = object(alloc)?;
     add(alloc, &mut store, "e.so", &bytes)?;
     add(alloc, &mut store, "short", &[0; 51])?;
+    add(alloc, &mut store, "rwx.so", &writable_text(alloc)?)?;
     let long = vec![in alloc; 0; 4_194_305]?;
     add(alloc, &mut store, "long", &long)?;
-    store.fail_at(12)?;
-    let rows: [(&str, &[u32], Came); 12] = [
+    store.fail_at(13)?;
+    let rows: [(&str, &[u32], Came); 13] = [
         (
             "e.so",
             &[0x20000, 0x80000],
@@ -148,7 +161,8 @@ fn first_loads(rt: HostRuntime) -> Result<(), Fail> {
         ("e.so", &[], Came::Pair(0x360c, 0x3500, 0x3600)),
         ("e.so", &[0x20000], Came::Pair(0x320c, 0x20300, 0x3200)),
         ("none", &[], Came::NoFile),
-        ("short", &[], Came::NotBuilt),
+        ("short", &[], Came::Elf(51)),
+        ("rwx.so", &[], Came::NotBuilt),
         ("long", &[], Came::TooLong),
         ("e.so", &[], Came::Fault),
     ];
