@@ -9,3 +9,4 @@ pub mod Ranges
 pub mod Filling
 pub mod Exact
 pub mod Listed
+pub mod Near

@@ -25,3 +25,6 @@ pub use elf_model::{ElfKind, ElfRefusal};
 pub use error::ReadErr;
 pub use object::read_object;
 pub use symbol_hash::hash;
+
+#[cfg(test)]
+mod tests;

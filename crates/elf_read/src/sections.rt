@@ -9,7 +9,7 @@ ghost use Rattle.elf_read.specs.Passes.{Reads};
 use crate::error::ReadErr;
 use crate::header::passes_end;
 use crate::refuse::refuse;
-use crate::strings::text_at;
+use crate::strings::string_at;
 use elf_model::constants::{EHDR_SIZE, SHDR_SIZE, SHT_DYNSYM, SYM_SIZE};
 use elf_model::{ElfKind, SectionHeader};
 use fd_base::{Memory, Words, half_in, word_in};
@@ -64,12 +64,13 @@ fn section_names(bytes: &[u8]) -> &[u8]
     }
 }
 
-/// Whether a section has this name.
-#[tactic(auto, unfolding(elf_model::specs::Sections::is_named))]
+/// Whether a section has this name, which isn't longer than other names may be.
+#[tactic(auto, using(crate::proofs::Near::is_named_near))]
 fn is_named(names: &[u8], wanted: &[u8], h: &SectionHeader) -> bool
+    requires { length wanted.now ≤ 255 }
     ensures { result ≡ spec.is_named names.now wanted.now h.now }
 {
-    match text_at(names, h.name) {
+    match string_at(names, h.name) {
         None => false,
         Some(text) => text == wanted,
     }

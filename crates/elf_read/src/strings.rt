@@ -1,6 +1,6 @@
 //! The strings of a table, and the names among them.
 
-ghost use Rattle.std.specs.Prelude.{◌≡◌, ◌≤◌, ◌==◌, ℕ, length, All, IfOk, IfSome, None, option_map, position};
+ghost use Rattle.std.specs.Prelude.{◌≡◌, ◌==◌, length, All, IfOk, IfSome, option_map, position, take, drop};
 ghost use Rattle.elf_model.specs.Segments.{InFile};
 ghost use Rattle.elf_model.specs.Dynamic as dynamic;
 ghost use Rattle.elf_model.specs.Strings as spec;
@@ -26,38 +26,25 @@ fn first_zero(bytes: &[u8]) -> Option<usize>
     bytes.iter().position(|b| *b == 0)
 }
 
-/// The bytes from an offset of the strings up to the first zero byte.
-#[tactic(auto, unfolding(elf_model::specs::Strings::text_at))]
-pub fn text_at(strings: &[u8], k: u32) -> Option<&[u8]>
-    ensures text { option_map (λ t. t.now) result ≡ spec.text_at strings.now k }
-    ensures no_zero { IfSome result (λ t. position (λ b. b == 0) t.now ≡ None) }
+/// As many bytes from an offset of the strings on as a name has with its zero byte, or as there are.
+fn near(strings: &[u8], k: u32) -> &[u8]
+    ensures { result.now ≡ take 256 (drop k strings.now) }
 {
-    let k = k as usize;
-    if k >= strings.len() {
-        return None;
-    }
-    let rest = &strings[k..];
-    match first_zero(rest) {
-        None => None,
-        Some(n) => Some(&rest[..n]),
-    }
+    let start = (k as usize).min(strings.len());
+    let end = (start + MAX_NAME + 1).min(strings.len());
+    &strings[start..end]
 }
 
 /// The text at an offset of the strings, where a name may have it.
-#[tactic(auto, unfolding(elf_model::specs::Strings::string_at))]
+#[tactic(auto, using(crate::proofs::Near::near_text, crate::proofs::Near::no_near_text, crate::proofs::Near::near_string))]
 pub fn string_at(strings: &[u8], k: u32) -> Option<&[u8]>
     ensures text { option_map (λ t. t.now) result ≡ spec.string_at strings.now k }
     ensures string { IfSome result (λ t. IsString t.now) }
 {
-    match text_at(strings, k) {
+    let near = near(strings, k);
+    match first_zero(near) {
         None => None,
-        Some(text) => {
-            if text.len() <= MAX_NAME {
-                Some(text)
-            } else {
-                None
-            }
-        }
+        Some(n) => Some(&near[..n]),
     }
 }
 

@@ -35,9 +35,7 @@ fn is_held_in(segment: &Segment, v: u32) -> bool
 fn is_executable_in(segments: &[Segment], v: u32) -> bool
     ensures { result ≡ is_executable_in segments.now v }
 {
-    segments
-        .iter()
-        .any(|segment| segment.flags & PF_X != 0 && is_held_in(segment, v))
+    segments.iter().any(|segment| segment.flags & PF_X != 0 && is_held_in(segment, v))
 }
 
 fn is_own_function(symbol: &Symbol) -> bool
