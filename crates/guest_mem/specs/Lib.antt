@@ -1,0 +1,5 @@
+pub mod Memory
+pub mod Accesses
+pub mod Ranges
+pub mod View
+pub mod Kept
