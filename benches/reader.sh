@@ -90,7 +90,7 @@ const TIMES: u32 = 20;
 fn main(rt: HostRuntime) -> io::Result<()> {
     let alloc = rt.alloc();
     let mut store = DirStore::new(&rt);
-    let Ok(name) = Name::new(alloc, b"large.so") else {
+    let Ok(name) = Name::new(alloc, b"data/large.so") else {
         return println!(rt; "no memory");
     };
     let Ok(Some(bytes)) = store.fetch(alloc, &name) else {
