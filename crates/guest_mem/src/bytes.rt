@@ -1,6 +1,6 @@
 //! Bytes, words and other values put into lists and read from them.
 
-ghost use Rattle.std.specs.Prelude.{◌≡◌, ◌+◌, ◌*◌, ◌<◌, ◌≤◌, ◌^◌, length};
+ghost use Rattle.std.specs.Prelude.{◌≡◌, ℕ, get_or, ◌+◌, ◌*◌, ◌<◌, ◌≤◌, ◌^◌, length};
 ghost use Rattle.std.specs.List.{flat_map};
 ghost use Rattle.byteorder.specs.Endian.{little_bytes};
 ghost use Rattle.guest_mem.specs.Accesses.{words_in};
@@ -8,6 +8,13 @@ ghost use Rattle.guest_mem.specs.Ranges.{filled, pasted};
 
 use byteorder::{ByteOrder, LittleEndian};
 use fd_base::word_in;
+
+/// What is true of each byte, for a caller's proof. It does nothing.
+pub fn are_bytes(bytes: &[u8])
+    ensures { (a : ℕ) → get_or bytes.now a 0 < 256 }
+{
+    let _count = bytes.len();
+}
 
 /// One value at each of `len` places.
 #[tactic(auto)]

@@ -1,12 +1,12 @@
 //! The memory and its accesses.
 
 ghost use Rattle.std.specs.Prelude.{◌≡◌, ℕ, ◌+◌, ◌*◌, ◌<◌, ◌≤◌, ◌^◌, IfOk, OnOk, MatchResult, replicate, Some, None, Ok, Err, false, [], ◌∷◌, length};
-ghost use Rattle.guest_mem.specs.Memory.{IsMemory, HaveKind, AreMapped, byte_at, is_mapped_as, is_code_as};
+ghost use Rattle.guest_mem.specs.Memory.{IsMemory, IsBytes, HaveKind, AreMapped, byte_at, is_mapped_as, is_code_as};
 ghost use Rattle.guest_mem.specs.Accesses.{with_bytes, read_refusal, write_refusal, read8_of, read16_of, read32_of, fetch_of, read_words_of, write_of, write8_of, write16_of, write32_of, write_words_of};
 ghost use Rattle.guest_mem.specs.Ranges.{with_kind, with_marks};
 ghost use Rattle.guest_mem.specs.declared.kind.MemKind.TheVariants.{Data};
 
-use crate::bytes::{byte_len, fill, get_words, paste, put_words};
+use crate::bytes::{are_bytes, byte_len, fill, get_words, paste, put_words};
 use crate::kind::{Access, MemKind};
 use crate::search::{first_not_code, first_unmapped, first_watched};
 use fd_base::{Memory, half_in, word_in};
@@ -52,9 +52,10 @@ impl Guest {
 
     /// What is true of each memory, for a caller's proof. It does nothing.
     pub fn whole(&self)
-        ensures { IsMemory self.now }
+        ensures whole { IsMemory self.now }
+        ensures bytes { IsBytes self.now }
     {
-        let _ = &self.bytes;
+        are_bytes(&self.bytes);
     }
 
     /// Maps a range, no byte of which is mapped, as one kind. No mark stays there, and the bytes stay.

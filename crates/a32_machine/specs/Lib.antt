@@ -1,0 +1,16 @@
+pub mod Bits
+pub mod Registers
+pub mod Condition
+pub mod Shifter
+pub mod Arithmetic
+pub mod Stepped
+pub mod DataProcessing
+pub mod Multiplication
+pub mod Transfers
+pub mod Multiple
+pub mod Branches
+pub mod Step
+pub mod Fit
+pub mod Frame
+pub mod Depends
+pub mod Entries

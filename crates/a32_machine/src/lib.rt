@@ -1,0 +1,22 @@
+//! One step of the machine: an instruction of the A32 subset, over a guest's memory.
+#![tactic(auto)]
+
+mod arithmetic;
+mod branch;
+mod condition;
+mod cpu;
+mod data;
+mod landing;
+mod laws;
+mod machine;
+mod multiple;
+mod multiply;
+mod registers;
+mod shifter;
+#[cfg(test)]
+mod tests;
+mod transfer;
+
+pub use cpu::{Cpu, StepEnd, StepStop};
+pub use laws::{depends_on, entry_arrives, fits, frames, lazy_place_arrives};
+pub use machine::step;

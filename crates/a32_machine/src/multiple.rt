@@ -1,0 +1,143 @@
+//! Loads and stores of several registers.
+
+ghost use Rattle.std.specs.Prelude.{◌≡◌, ◌+◌, ◌*◌, ◌<◌, ◌≤◌, ◌^◌, List, ℕ, length, map, take, slice_index};
+ghost use Rattle.guest_mem.specs.Memory.{Memory};
+ghost use Rattle.a32_machine.specs.Registers.{reg};
+ghost use Rattle.a32_machine.specs.Multiple as spec;
+
+use crate::cpu::{Cpu, StepEnd, StepStop};
+use crate::landing::stop_of;
+use crate::registers::{moved_on, reg, with_reg};
+use crate::transfer::moved_by;
+use guest_mem::Guest;
+
+/// The registers of a list, rising.
+#[derive(Clone, Copy)]
+pub struct Registers {
+    places: [u8; 16],
+    count: usize,
+    ghost few: { count ≤ 16 },
+    ghost registers: { (k : ℕ) → slice_index places k < 16 },
+}
+
+/// The registers whose bits are set.
+#[tactic(auto, unfolding(crate::specs::Multiple::registers_of))]
+pub fn registers_of(list: u16) -> Registers
+    ensures listed { take result.count result.places ≡ spec.registers_of list }
+    ensures some { 0 < list → 0 < result.count }
+{
+    let mut places = [0u8; 16];
+    let mut count = 0;
+    for k in 0..16 {
+        if (list >> k) % 2 == 1 {
+            places[count] = k;
+            count += 1;
+        }
+    }
+    Registers { places, count }
+}
+
+fn lowest_of(p: bool, u: bool, base: u32, count: u32) -> u32
+    requires { count ≤ 16 }
+    ensures { result ≡ spec.lowest_of p u base count }
+{
+    match (u, p) {
+        (true, true) => base.wrapping_add(4),
+        (true, false) => base,
+        (false, true) => base.wrapping_sub(4 * count),
+        (false, false) => base.wrapping_sub(4 * count).wrapping_add(4),
+    }
+}
+
+/// What the registers hold.
+fn gather(cpu: &Cpu, registers: &[u8], values: &mut [u32])
+    requires same { length registers.now ≡ length values.old }
+    requires registers { (k : ℕ) → slice_index registers.now k < 16 }
+    ensures { values.new ≡ map (reg cpu.now) registers.now }
+{
+    for i in 0..registers.len() {
+        values[i] = reg(cpu, registers[i]);
+    }
+}
+
+/// Registers that get one value each.
+fn spread(cpu: Cpu, registers: &[u8], values: &[u32]) -> Cpu
+    requires same { length registers.now ≡ length values.now }
+    requires registers { (k : ℕ) → slice_index registers.now k < 16 }
+    ensures { result ≡ record cpu { r = spec.with_regs cpu.r registers.now values.now } }
+{
+    let mut next = cpu;
+    for i in 0..registers.len() {
+        next = with_reg(next, registers[i], values[i]);
+    }
+    next
+}
+
+/// Registers that are loaded, r15 as the last of them.
+fn land_all(cpu: &mut Cpu, loaded: Cpu) -> StepEnd
+    ensures { (m : Memory) → record { end_ = result; cpu = cpu.new; memory = m } ≡ spec.landed_all cpu.old loaded m }
+{
+    if loaded.r[15] % 4 != 0 {
+        return StepEnd::Stop(StepStop::Unaligned(loaded.r[15]));
+    }
+    *cpu = loaded;
+    StepEnd::Next
+}
+
+/// A transfer of several registers: which way, and where the words lie from the base.
+#[derive(Clone, Copy, Debug)]
+pub struct MultipleTransfer {
+    pub load: bool,
+    pub p: bool,
+    pub u: bool,
+    pub w: bool,
+    pub n: u8,
+}
+
+fn base_moved(t: &MultipleTransfer, count: u32, cpu: &Cpu) -> Cpu
+    requires n { t.now.n < 16 }
+    requires few { count ≤ 16 }
+    ensures { result ≡ spec.base_moved t.now.u t.now.w t.now.n count cpu.now }
+{
+    let next = moved_on(*cpu);
+    if t.w {
+        with_reg(next, t.n, moved_by(t.u, reg(cpu, t.n), 4 * count))
+    } else {
+        next
+    }
+}
+
+/// Loads or stores registers at rising words. A store is refused before its first word is written.
+#[tactic(auto, unfolding(crate::specs::Multiple::transferred_all))]
+pub fn transfer_all(
+    t: &MultipleTransfer,
+    registers: &Registers,
+    cpu: &mut Cpu,
+    guest: &mut Guest,
+) -> StepEnd
+    requires n { t.now.n < 16 }
+    requires some { 0 < registers.now.count }
+    ensures { record { end_ = result; cpu = cpu.new; memory = guest.new } ≡ spec.transferred_all t.now.load t.now.p t.now.u t.now.w t.now.n (take registers.now.count registers.now.places) cpu.old guest.old }
+{
+    let listed = &registers.places[..registers.count];
+    let count = registers.count as u32;
+    let lowest = lowest_of(t.p, t.u, reg(cpu, t.n), count);
+    let next = base_moved(t, count, cpu);
+    let mut all = [0u32; 16];
+    let values = &mut all[..registers.count];
+    if t.load {
+        match guest.read_words(lowest, values) {
+            Ok(()) => land_all(cpu, spread(next, listed, values)),
+            Err(refusal) => stop_of(refusal),
+        }
+    } else {
+        gather(cpu, listed, values);
+        match guest.write_words(lowest, values) {
+            Ok(()) => {
+                *cpu = next;
+                StepEnd::Next
+            }
+            Err(refusal) => stop_of(refusal),
+        }
+    }
+}

@@ -1,0 +1,94 @@
+//! Multiplications.
+
+ghost use Rattle.std.specs.Prelude.{◌≡◌, ◌<◌, ◌≤◌, ◌^◌, ◌*◌, ◌+◌};
+ghost use Rattle.guest_mem.specs.Memory.{Memory};
+ghost use Rattle.a32_machine.specs.Multiplication as spec;
+
+use crate::cpu::{Cpu, StepEnd};
+use crate::registers::{moved_on, reg, with_reg};
+use crate::shifter::bit_of;
+
+/// A product into a register.
+fn keep_product(s: bool, d: u8, product: u32, cpu: &mut Cpu) -> StepEnd
+    requires { d < 16 }
+    ensures { (mem : Memory) → record { end_ = result; cpu = cpu.new; memory = mem } ≡ spec.product_kept s d product cpu.old mem }
+{
+    let mut next = moved_on(*cpu);
+    if s {
+        next.n = bit_of(product, 31);
+        next.z = product == 0;
+    }
+    *cpu = with_reg(next, d, product);
+    StepEnd::Next
+}
+
+/// `m` times `s2`.
+#[tactic(auto, unfolding(crate::specs::Multiplication::multiplied))]
+pub fn multiply(s: bool, d: u8, s2: u8, m: u8, cpu: &mut Cpu) -> StepEnd
+    requires d { d < 16 }
+    requires s2 { s2 < 16 }
+    requires m { m < 16 }
+    ensures { (mem : Memory) → record { end_ = result; cpu = cpu.new; memory = mem } ≡ spec.multiplied s d s2 m cpu.old mem }
+{
+    let product = reg(cpu, m).wrapping_mul(reg(cpu, s2));
+    keep_product(s, d, product, cpu)
+}
+
+/// `m` times `s2` plus `n`.
+#[tactic(auto, unfolding(crate::specs::Multiplication::multiplied_and_added))]
+pub fn multiply_add(s: bool, d: u8, n: u8, s2: u8, m: u8, cpu: &mut Cpu) -> StepEnd
+    requires d { d < 16 }
+    requires n { n < 16 }
+    requires s2 { s2 < 16 }
+    requires m { m < 16 }
+    ensures { (mem : Memory) → record { end_ = result; cpu = cpu.new; memory = mem } ≡ spec.multiplied_and_added s d n s2 m cpu.old mem }
+{
+    let product = reg(cpu, m)
+        .wrapping_mul(reg(cpu, s2))
+        .wrapping_add(reg(cpu, n));
+    keep_product(s, d, product, cpu)
+}
+
+/// The product of two words, or of two signed words, in 64 bits.
+fn long_product(kind: u8, a: u32, b: u32) -> u64
+    ensures { result ≡ spec.long_product kind a b }
+{
+    if kind < 2 {
+        a as u64 * b as u64
+    } else {
+        (a.cast_signed() as i64 * b.cast_signed() as i64).cast_unsigned()
+    }
+}
+
+fn long_result(kind: u8, a: u32, b: u32, held: u64) -> u64
+    ensures { result ≡ spec.long_result kind a b held }
+{
+    let product = long_product(kind, a, b);
+    if kind % 2 == 1 {
+        product.wrapping_add(held)
+    } else {
+        product
+    }
+}
+
+/// `m` times `s2` in 64 bits, with what the registers hold added in the kinds 1 and 3.
+#[tactic(auto, unfolding(crate::specs::Multiplication::multiplied_long))]
+pub fn multiply_long(kind: u8, s: bool, hi: u8, lo: u8, s2: u8, m: u8, cpu: &mut Cpu) -> StepEnd
+    requires hi { hi < 16 }
+    requires lo { lo < 16 }
+    requires s2 { s2 < 16 }
+    requires m { m < 16 }
+    ensures { (mem : Memory) → record { end_ = result; cpu = cpu.new; memory = mem } ≡ spec.multiplied_long kind s hi lo s2 m cpu.old mem }
+{
+    let held = reg(cpu, hi) as u64 * 0x1_0000_0000 + reg(cpu, lo) as u64;
+    let product = long_result(kind, reg(cpu, m), reg(cpu, s2), held);
+    let high = (product / 0x1_0000_0000) as u32;
+    let low = (product % 0x1_0000_0000) as u32;
+    let mut next = moved_on(*cpu);
+    if s {
+        next.n = bit_of(high, 31);
+        next.z = product == 0;
+    }
+    *cpu = with_reg(with_reg(next, lo, low), hi, high);
+    StepEnd::Next
+}
