@@ -1,0 +1,4 @@
+pub mod Values
+pub mod Slotting
+pub mod Freeing
+pub mod Contained

@@ -1,0 +1,4 @@
+pub mod Functions
+pub mod Inside
+pub mod Laws
+pub mod Pool

@@ -1,0 +1,13 @@
+//! Descriptors of functions: one address for each function.
+#![tactic(auto)]
+
+mod laws;
+mod pool;
+mod slots;
+
+pub use laws::free_slots_are_free;
+pub use pool::{DescPool, Full};
+pub use slots::DESCRIPTOR_SIZE;
+
+#[cfg(test)]
+mod tests;

@@ -1,0 +1,5 @@
+pub mod Growing
+pub mod Closed
+pub mod Finding
+pub mod Filling
+pub mod Marking

@@ -1,0 +1,116 @@
+//! The tables of the modules of a process.
+
+ghost use Rattle.std.specs.Prelude.{◌≡◌, None};
+ghost use Rattle.symbol_scope.specs.Definition.{first_definition};
+ghost use Rattle.symbol_scope.specs.Needs.{export_in};
+
+use crate::closing::closure_of;
+use crate::slots::{export_in, make_room, put_slot};
+use crate::table::Table;
+use elf_model::Object;
+use fd_base::{Memory, Name, Numbers, Seq};
+use std::alloc::Global;
+use std::marker::Model;
+
+/// The most modules that have tables. Their numbers are below it.
+pub const MAX_MODULES: u32 = 64;
+
+/// A definition: a module, and the number of a symbol of it.
+#[derive(Clone, Copy, Debug, PartialEq, Eq)]
+pub struct Found {
+    pub module: u32,
+    pub symbol: u32,
+}
+
+/// The tables of modules, by their numbers.
+#[derive(Debug, Drop)]
+pub struct Tables {
+    slots: Vec<Option<Table>>,
+}
+
+impl Model for Tables {
+    ghost use Rattle.std.specs.Prelude.{◌≤◌, length};
+    ghost use Rattle.symbol_scope.specs.Slots.{Slots, slots_code, filled_up};
+
+    ghost Value = { Slots };
+
+    ghost coded = { slots_code };
+
+    ghost view = { λ t. filled_up t.slots.items };
+
+    ghost invariant = { λ t. length t.slots.items ≤ 64 };
+}
+
+impl Tables {
+    ghost use Rattle.std.specs.Prelude.{◌≡◌, ◌↔◌, ◌≤◌, ◌<◌, ◌^◌, [], ◌∷◌, length, replicate, slice_set, Some, None, nat_eq, All, IfOk, OnOk, OnErr, IsNone};
+    ghost use Rattle.symbol_scope.specs.Closure.{IsClosure};
+    ghost use Rattle.symbol_scope.specs.Definition.{first_definition};
+    ghost use Rattle.symbol_scope.specs.Needs.{export_in, needs};
+    ghost use Rattle.symbol_scope.specs.Table.{table_of};
+
+    /// No module has a table. Takes no memory.
+    pub fn new(alloc: Global) -> Tables
+        ensures { result ≡ replicate 64 None }
+    {
+        Tables {
+            slots: Vec::new(alloc),
+        }
+    }
+
+    /// Gives the module of this number the table of an object, under the module's name. Without memory the
+    /// tables stay.
+    pub fn add(&mut self, number: u32, name: &Name, o: &Object) -> Result<(), Memory>
+        requires number { number < MAX_MODULES }
+        requires few { length o.now.symbols ≤ 2 ^ 32 }
+        ensures added { OnOk result (self.new ≡ slice_set self.old number (Some (table_of name.now o.entry.now))) }
+        ensures stays { OnErr result (self.new ≡ self.old) }
+    {
+        let table = Table::of(*self.slots.allocator(), name, o)?;
+        make_room(&mut self.slots, number as usize + 1)?;
+        put_slot(&mut self.slots, number as usize, Some(table));
+        Ok(())
+    }
+
+    /// Takes the table of a module out. Takes no memory.
+    pub fn remove(&mut self, number: u32)
+        ensures { self.new ≡ slice_set self.old number None }
+    {
+        let number = number as usize;
+        if number < self.slots.len() {
+            put_slot(&mut self.slots, number, None);
+        }
+    }
+
+    /// The first exported definition of a name in the first module of the scope that has one. None exactly
+    /// where no module of the scope has one. Takes no memory.
+    pub fn find(&self, scope: &Numbers, name: &Name) -> Option<Found>
+        ensures found { result ≡ first_definition (export_in self.now name.now) scope.now }
+        ensures none { IsNone result ↔ All (λ m. export_in self.now name.now m ≡ None) scope.now }
+    {
+        found_in(&self.slots, scope.as_slice(), name)
+    }
+
+    /// The root and the modules that are needed from it on, breadth first over the needed names in table
+    /// order, each module once. A needed name that is no module's name counts for nothing.
+    pub fn closure(&self, alloc: Global, root: u32) -> Result<Numbers, Memory>
+        requires { root < MAX_MODULES }
+        ensures { IfOk result (IsClosure nat_eq (needs self.now) (root ∷ [])) }
+    {
+        let members = closure_of(alloc, &self.slots, root)?;
+        Ok(Seq::from_vec(members))
+    }
+}
+
+fn found_in(slots: &[Option<Table>], scope: &[u32], name: &Name) -> Option<Found>
+    ensures { result ≡ first_definition (export_in slots.now name.now) scope.now }
+{
+    for number in scope {
+        if let Some(symbol) = export_in(slots, name, *number) {
+            return Some(Found {
+                module: *number,
+                symbol,
+            });
+        }
+    }
+    None
+}
