@@ -1,10 +1,7 @@
 -- The definitions of an accepted object, computed on small files.
-use Rattle.std.proofs.Common.{◌≡◌, ℕ, List, [], ◌∷◌, ◌++◌, Option, Some, None, refl}
+use Rattle.std.proofs.Common.{◌≡◌, ℕ, List, [], ◌∷◌, Some, None, refl}
 use Rattle.std.specs.Prelude.{replicate}
 use Rattle.elf_model.specs.declared.refusal.ElfKind.TheVariants.{Short, Ident, Header}
-use Rattle.elf_model.specs.declared.object.Rel.{Rel}
-use Rattle.elf_model.specs.Test.{first_failing, each_below, each_from}
-use Rattle.elf_model.specs.Header.{header_tests}
 use Rattle.elf_model.specs.Object.{refusal_of, object_of}
 use Rattle.elf_model.specs.Places.{file_word}
 use Rattle.elf_model.proofs.Computing.{computing}

@@ -1,15 +1,12 @@
 -- The segments of an accepted object fit and are apart.
-use Rattle.std.proofs.Common.{◌≡◌, ℕ, zero, suc, ◌+◌, ◌*◌, ◌^◌, ◌-◌, ◌<◌, ◌≤◌, ◌⊎◌, Bool, true, false, not, cond, ◌&&◌, ◌||◌, ◌==◌, nat_lt, nat_le, List, [], ◌∷◌, ◌++◌, length, map, take, drop, get_or, Option, Some, None, refl, sym, ap, subst, ◌∙◌, inl, inr, arith, All, AllPairs, append-nil, length-append, length-drop, length-take}
-use Rattle.std.specs.Prelude.{slice_range}
-use Rattle.std.specs.List.{list_any, range_with_len}
+use Rattle.std.proofs.Common.{◌≡◌, ℕ, zero, suc, ◌+◌, ◌^◌, ◌<◌, ◌≤◌, Bool, true, false, not, cond, ◌&&◌, ◌==◌, nat_lt, nat_le, List, [], ◌∷◌, ◌++◌, length, map, None, refl, sym, subst, inl, inr, arith, All, AllPairs, append-nil, length-append, length-drop, length-take}
+use Rattle.std.specs.List.{list_any}
 use Rattle.std.proofs.lemmas.List.{map-append}
-use Rattle.std.proofs.lemmas.List.Elements.{All-nil, All-push, All-tail, All-head, All-cons}
+use Rattle.std.proofs.lemmas.List.Elements.{All-nil, All-push, All-cons}
 use Rattle.std.proofs.lemmas.List.Quantifiers.{all_pairs_push}
 use Rattle.std.proofs.lemmas.List.FromFn.{filter_of_map_range_with_len_more}
 use Rattle.std.proofs.lemmas.Bool.{and_parts, and_cases, or_parts, ltb-true, ltb-false, leb-true, leb-false, not-false}
-use Rattle.elf_model.specs.declared.refusal.ElfRefusal.{ElfRefusal}
 use Rattle.elf_model.specs.declared.table.ProgramHeader.{ProgramHeader}
-use Rattle.elf_model.specs.declared.object.Segment.{Segment}
 use Rattle.elf_model.specs.declared.refusal.ElfKind.TheVariants.{Tls, TooMany, SegmentRange, SegmentOverlap}
 use Rattle.elf_model.specs.Test.{Test, refuses, only_where, first_failing, each_below}
 use Rattle.elf_model.specs.Header.{e_phnum}

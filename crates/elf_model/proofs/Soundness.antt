@@ -1,5 +1,5 @@
 -- Every accepted object is sound.
-use Rattle.std.proofs.Common.{◌≡◌, ℕ, zero, suc, ◌+◌, ◌*◌, ◌/◌, ◌%◌, ◌^◌, ◌-◌, ◌<◌, ◌≤◌, Bool, true, false, not, ◌&&◌, ◌||◌, ◌==◌, nat_lt, nat_le, List, [], ◌∷◌, ◌++◌, length, map, get_or, Option, Some, None, refl, sym, ap, subst, ◌∙◌, inl, inr, ◌⊎◌, arith, All, AllPairs, append-nil}
+use Rattle.std.proofs.Common.{◌≡◌, ℕ, ◌+◌, ◌*◌, ◌/◌, ◌%◌, ◌≤◌, true, false, not, ◌||◌, ◌==◌, nat_lt, List, [], ◌∷◌, ◌++◌, length, map, get_or, Option, Some, None, refl, sym, ap, subst, ◌∙◌, inl, inr, arith, All, append-nil}
 use Rattle.std.specs.Prelude.{filter, option_map, unwrap_or, is_none, count_by}
 use Rattle.std.specs.Option.{option_map_or}
 use Rattle.std.specs.List.{range_with_len}
@@ -15,23 +15,21 @@ use Rattle.elf_model.specs.declared.table.DynEntry.{DynEntry}
 use Rattle.elf_model.specs.declared.table.RelTable.{RelTable}
 use Rattle.elf_model.specs.declared.table.RelTable.TheVariants.{Rel as InRel, JmpRel as InJmpRel}
 use Rattle.elf_model.specs.declared.table.RelEntry.{RelEntry}
-use Rattle.elf_model.specs.declared.table.Site.{Site}
-use Rattle.elf_model.specs.declared.object.Segment.{Segment}
 use Rattle.elf_model.specs.declared.object.Object.{Object}
-use Rattle.elf_model.specs.Test.{Test, refuses, only_where, of_some, first_failing}
+use Rattle.elf_model.specs.Test.{refuses, only_where, of_some, first_failing}
 use Rattle.elf_model.specs.Header.{header_tests}
-use Rattle.elf_model.specs.Segments.{loads, segment, segments, segment_tests, some_segment_tests, held_at, is_writable_at}
+use Rattle.elf_model.specs.Segments.{loads, segments, segment_tests, some_segment_tests, held_at, is_writable_at}
 use Rattle.elf_model.specs.Sections.{rofixup, rofixup_offset, rofixup_tests, fixups_of}
 use Rattle.elf_model.specs.Dynamic.{first_of, value_of, dynamic_range_tests, dynamic_offset_or, all_entry_tests}
 use Rattle.elf_model.specs.Relocations as rel
 use Rattle.elf_model.specs.Relocations.{rel_table_at, rel_table_tests, both_table_tests, all_rel_tests, fixup_tests, rel_entry_tests, site_tests, sites_before, is_kind_of, rel_entry, own_places, entries_at, is_slot_entry, fills, site_of, sites_of, rel_of, rels_of, word_site, got_header}
 use Rattle.elf_model.specs.Fields as field
 use Rattle.elf_model.specs.Fields.{got_tests, is_got_place, got_or_zero, all_fixup_tests}
-use Rattle.elf_model.specs.Object.{tests, all_segment_tests, dynamic_tests, name_tests, relocation_tests, object_of, IsObject}
-use Rattle.elf_model.specs.Places.{site_of_rel, filled_ranges, is_writable_in}
-use Rattle.elf_model.specs.Sound.{IsSound, IsInPlace, IsWhole, RangesApart, SegmentsApart, AcceptedIsSound}
+use Rattle.elf_model.specs.Object.{tests, all_segment_tests, dynamic_tests, name_tests, relocation_tests, object_of}
+use Rattle.elf_model.specs.Places.{site_of_rel, filled_ranges}
+use Rattle.elf_model.specs.Sound.{IsSound, IsInPlace, AcceptedIsSound}
 use Rattle.elf_model.proofs.Tests.{both_pass, front_holds, two_hold, each_holds}
-use Rattle.elf_model.proofs.SoundSegments.{AreSound, sound_loads}
+use Rattle.elf_model.proofs.SoundSegments.{sound_loads}
 use Rattle.elf_model.proofs.SoundSites.{AreGood, writable_same, good_entries, good_fixups, sites_of-append, whole_in_each}
 
 -- ---- the GOT

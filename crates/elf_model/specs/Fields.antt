@@ -1,5 +1,5 @@
 -- What stands in a file at the places of an object's fields, as functions of its bytes.
-use Rattle.std.specs.Prelude.{ℕ, ◌*◌, ◌%◌, Bool, false, not, ◌&&◌, ◌||◌, ◌==◌, nat_lt, List, [], ◌∷◌, Option, Some, None, option_map, option_and_then, is_some, is_none, unwrap_or, if◌then◌else◌}
+use Rattle.std.specs.Prelude.{ℕ, ◌%◌, Bool, false, not, ◌&&◌, ◌||◌, ◌==◌, nat_lt, List, [], ◌∷◌, Option, Some, None, option_map, option_and_then, is_some, unwrap_or, if◌then◌else◌}
 use Rattle.std.specs.Option.{option_map_or, option_or}
 use Rattle.elf_model.specs.declared.constants.TheConstants.{DT_PLTGOT, DT_INIT, DT_FINI, DT_SYMBOLIC, DT_BIND_NOW, DT_INIT_ARRAY, DT_INIT_ARRAYSZ, DT_FINI_ARRAY, DT_FINI_ARRAYSZ, DT_FLAGS, DF_SYMBOLIC, DF_BIND_NOW}
 use Rattle.elf_model.specs.declared.refusal.ElfKind.TheVariants.{NoGot}

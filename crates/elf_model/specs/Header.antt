@@ -1,6 +1,6 @@
 -- The ELF header of an object (gABI, "ELF Header"; the machine, its flags and the OS/ABI byte by ELF for the
 -- Arm Architecture and the Arm FDPIC ABI).
-use Rattle.std.specs.Prelude.{ℕ, ◌+◌, ◌*◌, ◌/◌, ◌^◌, Bool, not, ◌&&◌, ◌||◌, ◌==◌, nat_lt, nat_le, List, [], ◌∷◌, ◌++◌, length, slice_index, if◌then◌else◌}
+use Rattle.std.specs.Prelude.{ℕ, ◌+◌, ◌*◌, ◌/◌, ◌^◌, Bool, not, ◌||◌, ◌==◌, nat_lt, nat_le, List, [], ◌∷◌, ◌++◌, length, slice_index, if◌then◌else◌}
 use Rattle.fd_base.specs.Words.{word_in, half_in}
 use Rattle.elf_model.specs.declared.constants.TheConstants.{EM_ARM, EF_ARM_EABI_VERSION, ET_EXEC, ET_DYN, EHDR_SIZE, PHDR_SIZE, SHDR_SIZE}
 use Rattle.elf_model.specs.declared.refusal.ElfKind.TheVariants.{Short, Ident, Machine, FileType, Header}

@@ -1,5 +1,5 @@
 -- The strings of a table (gABI, "String Table").
-use Rattle.std.specs.Prelude.{ℕ, Bool, ◌==◌, nat_lt, nat_le, List, length, position, take, drop, Option, Some, None, option_map, option_and_then, if◌then◌else◌}
+use Rattle.std.specs.Prelude.{ℕ, ◌==◌, nat_lt, nat_le, List, length, position, take, drop, Option, Some, None, option_map, option_and_then, if◌then◌else◌}
 
 -- The bytes from an offset of the strings up to the first zero byte. None where the offset isn't in the strings, or
 -- no zero byte follows in them.

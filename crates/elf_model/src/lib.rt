@@ -6,6 +6,7 @@ pub mod constants;
 mod func;
 mod laws;
 mod object;
+mod places;
 mod refusal;
 mod relocatable;
 mod table;
@@ -15,6 +16,7 @@ pub use laws::{accepted_is_sound, one_object};
 pub use object::{
     Extent, Inits, Kind, Object, Place, Rel, Rels, Segment, Segments, Symbol, Symbols,
 };
+pub use places::{file_word, is_executable_in};
 pub use refusal::{ElfKind, ElfRefusal};
 pub use relocatable::{RelObject, RelObjects, RelSection, RelSections};
 pub use table::{DynEntry, ProgramHeader, RelEntry, RelTable, SectionHeader, Site, SymbolEntry};

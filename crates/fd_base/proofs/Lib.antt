@@ -4,4 +4,5 @@ pub mod Growing
 pub mod Hosted
 pub mod Numerals
 pub mod Putting
+pub mod Splitting
 pub mod Translated

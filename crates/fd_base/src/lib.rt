@@ -3,6 +3,7 @@
 
 mod calls;
 mod host;
+mod lines;
 mod map;
 mod name;
 mod seq;
@@ -14,6 +15,7 @@ mod text;
 mod words;
 
 pub use host::{DirStore, StdSink};
+pub use lines::{Line, Lines};
 pub use map::MapEntry;
 pub use name::{Name, NameErr};
 pub use seq::{Bytes, Memory, Names, Numbers, Seq, Words};

@@ -1,4 +1,6 @@
 //! Values from outside: each public call once, at its edges.
+ghost use Rattle.std.specs.Prelude.{◌<◌, ◌^◌, length};
+
 use super::*;
 use crate::host::read_all;
 use std::alloc::Global;
@@ -210,4 +212,27 @@ fn host_files_are_read_whole(rt: HostRuntime) -> Result<(), Fail> {
         )
     );
     Ok(())
+}
+
+/// Whether the lines of a text are these, with numbers from 1 on.
+fn has_lines(text: &[u8], expected: &[(u32, &[u8])]) -> bool
+    requires { length text.now < 2 ^ 32 }
+{
+    let mut lines = Lines::new(text);
+    for (number, wanted) in expected {
+        match lines.next() {
+            Some(line) if line.number == *number && line.text == *wanted => {}
+            _ => return false,
+        }
+    }
+    lines.next().is_none()
+}
+
+#[test]
+fn lines_end_at_line_feeds(rt: HostRuntime) {
+    assert!(rt; has_lines(b"", &[]));
+    assert!(rt; has_lines(b"\n", &[(1, b"")]));
+    assert!(rt; has_lines(b"a", &[(1, b"a")]));
+    assert!(rt; has_lines(b"a\n", &[(1, b"a")]));
+    assert!(rt; has_lines(b"a\r\n\n b", &[(1, b"a\r"), (2, b""), (3, b" b")]));
 }
