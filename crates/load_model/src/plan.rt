@@ -1,0 +1,96 @@
+//! The memory plan of a process.
+
+ghost use Rattle.std.specs.Prelude.{◌≡◌, ◌<◌, ◌^◌, IfOk};
+ghost use Rattle.std.specs.Str.{bytes_eq};
+ghost use Rattle.load_model.specs.Plan.{Fits, low_of, high_of, listed_for};
+
+use fd_base::{Memory, Name, Seq};
+use placement::Addrs;
+use std::alloc::Global;
+
+/// Where the descriptors begin.
+pub const DESCRIPTORS: u32 = 0x3000;
+/// How many bytes a descriptor has: an entry point and a GOT.
+pub const DESCRIPTOR_SIZE: u32 = 8;
+/// The most threads of a process. Each has a stack.
+pub const THREADS: u32 = 8;
+
+/// How the memory of a process is parted.
+#[derive(Debug, Drop)]
+pub struct MemPlan {
+    /// How many bytes there are.
+    pub memory: u32,
+    /// For how many descriptors there is room below the modules.
+    pub descriptors: u32,
+    /// How many bytes each stack has. The stacks lie at the end of the memory.
+    pub stack: u32,
+    /// The addresses that are listed for modules.
+    pub places: Places,
+}
+
+/// The addresses that are listed for the segments of one module, in their order.
+#[derive(Debug, Drop)]
+pub struct PlaceLine {
+    pub name: Name,
+    pub addrs: Addrs,
+}
+
+/// Place lines in order. Of several lines of one name the first counts.
+pub type Places = Seq<PlaceLine>;
+
+impl MemPlan {
+    /// The lowest address of modules.
+    pub fn low(&self) -> u32
+        requires { Fits self.now }
+        ensures { result ≡ low_of self.now }
+    {
+        let behind = u64::from(DESCRIPTORS)
+            + u64::from(DESCRIPTOR_SIZE) * u64::from(self.descriptors);
+        ((behind + 15) / 16 * 16) as u32
+    }
+
+    /// The address behind the last byte of modules.
+    pub fn high(&self) -> u32
+        requires { Fits self.now }
+        ensures { result ≡ high_of self.now }
+    {
+        self.memory - THREADS * self.stack
+    }
+
+    /// The same plan in memory of its own.
+    pub fn copy(&self, alloc: Global) -> Result<MemPlan, Memory>
+        ensures { IfOk result (λ plan. plan ≡ self.now) }
+    {
+        Ok(MemPlan {
+            memory: self.memory,
+            descriptors: self.descriptors,
+            stack: self.stack,
+            places: copied(alloc, self.places.as_slice())?,
+        })
+    }
+}
+
+fn copied(alloc: Global, lines: &[PlaceLine]) -> Result<Places, Memory>
+    ensures { IfOk result (λ places. places ≡ lines.now) }
+{
+    let mut places = Seq::new(alloc);
+    for line in lines {
+        places.push(PlaceLine {
+            name: line.name.copy(alloc)?,
+            addrs: Seq::from_slice(alloc, line.addrs.as_slice())?,
+        })?;
+    }
+    Ok(places)
+}
+
+/// The addresses that are listed for the module of this name, in the order of its segments.
+pub fn listed_for<'a>(lines: &'a [PlaceLine], name: &Name) -> &'a [u32]
+    ensures { result.now ≡ listed_for lines.now name.now }
+{
+    for line in lines {
+        if line.name.as_slice() == name.as_slice() {
+            return line.addrs.as_slice();
+        }
+    }
+    &[]
+}
