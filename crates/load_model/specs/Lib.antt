@@ -1,1 +1,4 @@
+pub mod Explains
 pub mod Plan
+pub mod Process
+pub mod Walk

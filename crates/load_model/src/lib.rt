@@ -1,7 +1,19 @@
-//! What loading means: the memory plan, the process without addresses, the definitions of symbols, the placed image,
+//! What loading means: the memory plan, the process without addresses, what symbols and sites mean, the placed image,
 //! and which loads are accepted. The code that loads stands in the crates above.
 #![tactic(auto)]
 
+mod error;
+mod layout;
+mod meaning;
+mod module;
 mod plan;
 
+pub use error::{LoadErr, LoadRefusal};
+pub use layout::{
+    END_WORDS, LOAD_MAP_SIZE, LOAD_MAPS, PROCESS_END, RESOLVER, RESOLVER_WORDS, STUBS_END,
+    THREAD_END,
+};
+pub use meaning::{Definition, SiteValue, Value};
+pub use module::{Group, Groups, Joining, Live, Modules, Process};
 pub use plan::{DESCRIPTOR_SIZE, DESCRIPTORS, MemPlan, PlaceLine, Places, THREADS, listed_for};
+pub use symbol_scope::MAX_MODULES;
