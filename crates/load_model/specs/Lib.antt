@@ -1,4 +1,9 @@
+pub mod Definition
+pub mod Descriptors
 pub mod Explains
+pub mod Image
+pub mod Linkage
 pub mod Plan
 pub mod Process
+pub mod Sites
 pub mod Walk

@@ -7,6 +7,7 @@ mod layout;
 mod meaning;
 mod module;
 mod plan;
+mod words;
 
 pub use error::{LoadErr, LoadRefusal};
 pub use layout::{
@@ -17,3 +18,4 @@ pub use meaning::{Definition, SiteValue, Value};
 pub use module::{Group, Groups, Joining, Live, Modules, Process};
 pub use plan::{DESCRIPTOR_SIZE, DESCRIPTORS, MemPlan, PlaceLine, Places, THREADS, listed_for};
 pub use symbol_scope::MAX_MODULES;
+pub use words::{LinkWord, SlotPair};
