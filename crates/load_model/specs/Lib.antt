@@ -2,8 +2,11 @@ pub mod Definition
 pub mod Descriptors
 pub mod Explains
 pub mod Image
+pub mod Joined
+pub mod Layout
 pub mod Linkage
 pub mod Plan
 pub mod Process
 pub mod Sites
+pub mod Validity
 pub mod Walk
