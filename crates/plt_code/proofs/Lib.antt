@@ -1,0 +1,9 @@
+pub mod Within
+pub mod Offsets
+pub mod Slots
+pub mod Called
+pub mod Resolved
+pub mod Listed
+pub mod Rising
+pub mod Examples
+pub mod Whole

@@ -1,0 +1,13 @@
+//! The list of `.rofixup`: the words that hold link addresses, which become placed addresses at the start.
+#![tactic(auto)]
+
+mod laws;
+mod list;
+mod placing;
+
+pub use laws::lists_read_back;
+pub use list::emit;
+pub use placing::{Outside, apply};
+
+#[cfg(test)]
+mod tests;
