@@ -1,0 +1,12 @@
+pub mod Addressing
+pub mod Bounded
+pub mod Collecting
+pub mod Composing
+pub mod Exact
+pub mod FirstRefused
+pub mod Making
+pub mod Parting
+pub mod Saying
+pub mod Sorting
+pub mod Sounding
+pub mod Unique

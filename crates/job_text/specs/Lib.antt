@@ -1,0 +1,10 @@
+pub mod Kinds
+pub mod Limits
+pub mod Answers
+pub mod Fields
+pub mod Format
+pub mod Statement
+pub mod Given
+pub mod Job
+pub mod Refused
+pub mod Sound
