@@ -1,0 +1,9 @@
+pub mod Places
+pub mod Beginning
+pub mod Putting
+pub mod Lists
+pub mod Walking
+pub mod Facts
+pub mod After
+pub mod Kept
+pub mod Validity

@@ -1,0 +1,9 @@
+use Rattle.load_model.specs.Joined.{global_after}
+use Rattle.load_process.specs.Load.{scope_after}
+use Rattle.load_process.proofs.Facts.{facts_of}
+use Rattle.load_process.proofs.Kept.{left}
+use Rattle.load_process.proofs.laws.loads_leave_scopes.Goals as goal
+
+pub returns : goal.returns
+returns c = λ p files root joining names asked valid walk.
+    left p joining names (facts_of p files root joining names walk) valid (scope_after p joining names) (global_after p asked (scope_after p joining names))
