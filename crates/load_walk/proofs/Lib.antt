@@ -1,0 +1,10 @@
+pub mod Breadth
+pub mod Needed
+pub mod Walked
+pub mod Ended
+pub mod Numbered
+pub mod Freed
+pub mod Whole
+pub mod Told
+pub mod Determined
+pub mod Few
