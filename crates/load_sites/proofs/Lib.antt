@@ -1,0 +1,9 @@
+pub mod Agreeing
+pub mod Described
+pub mod Ending
+pub mod Leading
+pub mod Looking
+pub mod Same
+pub mod Telling
+pub mod Valued
+pub mod TestObjects

@@ -1,0 +1,5 @@
+use Rattle.load_sites.proofs.Ending.{sites_end}
+use Rattle.load_sites.proofs.laws.sites_have_words.Goals as goal
+
+pub returns : goal.returns
+returns c = sites_end
