@@ -1,0 +1,9 @@
+pub mod Entered
+pub mod Filled
+pub mod Frame
+pub mod Itemized
+pub mod Parts
+pub mod Standing
+pub mod Valued
+pub mod Writing
+pub mod Zips

@@ -1,0 +1,160 @@
+//! The words that loading writes.
+
+ghost use Rattle.std.specs.Prelude.{ℕ, ◌≡◌, ◌+◌, ◌^◌, ◌<◌, IfOk, OnOk, ◌++◌, ◌∷◌, [], All, unwrap_or, length};
+ghost use Rattle.arm_relocs.specs.Value as arm;
+ghost use Rattle.elf_model.specs.Sound.{IsSound};
+ghost use Rattle.load_model.specs.Definition.{Linkage};
+ghost use Rattle.load_model.specs.Image.{got_words, value_words, pair_words, descriptor_word, words_of, number_of_value, got_of, placed};
+ghost use Rattle.load_model.specs.Sites.{addend_of, sites_of};
+ghost use Rattle.load_image.specs.Places.{map_at, placing_of};
+ghost use Rattle.load_image.specs.Words.{HasValues, words_by, words_with};
+
+use crate::address::placed;
+use crate::places::Places;
+use crate::sites::sites;
+use arm_relocs::apply_value;
+use elf_model::{Func, Object, Rel, file_word};
+use fd_base::Memory;
+use load_model::{LOAD_MAP_SIZE, LOAD_MAPS, LinkWord, MAX_MODULES, RESOLVER, SiteValue, Value};
+use std::alloc::Global;
+
+/// The header of the GOT.
+fn got_words(number: u32, got: u32) -> [LinkWord; 3]
+    requires number { number < MAX_MODULES }
+    requires got { got + 12 < 2 ^ 32 }
+    ensures { result ≡ got_words number got }
+{
+    [
+        LinkWord {
+            addr: got,
+            value: RESOLVER,
+        },
+        LinkWord {
+            addr: got + 4,
+            value: number,
+        },
+        LinkWord {
+            addr: got + 8,
+            value: LOAD_MAPS + LOAD_MAP_SIZE * number,
+        },
+    ]
+}
+
+/// What the formula of a relocation gives.
+fn formula(places: &Places, m: u32, object: &Object, rel: &Rel, value: &Value) -> u32
+    requires { rel.now.site + 4 < 2 ^ 32 }
+    ensures { result ≡ unwrap_or (arm.apply_value rel.now.kind (number_of_value (placing_of places.now) value.now) (addend_of object.entry.now rel.now) (placed (map_at places.now.maps m) rel.now.site) (got_of (placing_of places.now) m)) 0 }
+{
+    let addend = file_word(object.segments.as_slice(), rel.site);
+    let site = placed(places.map(m), rel.site);
+    apply_value(
+        rel.kind,
+        places.number_of(value),
+        addend,
+        site,
+        places.got_of(m),
+    )
+    .unwrap_or(0)
+}
+
+fn push_word(words: &mut Vec<LinkWord>, addr: u32, value: u32) -> Result<(), Memory>
+    ensures { OnOk result (words.new.items ≡ words.old.items ++ record { addr = addr; value = value } ∷ []) }
+{
+    words.push(LinkWord { addr, value })?;
+    Ok(())
+}
+
+/// The entry point of a function and its GOT, or two zeros.
+fn push_pair(
+    words: &mut Vec<LinkWord>,
+    places: &Places,
+    site: u32,
+    f: &Option<Func>,
+) -> Result<(), Memory>
+    requires { site + 4 < 2 ^ 32 }
+    ensures { OnOk result (words.new.items ≡ words.old.items ++ pair_words (placing_of places.now) site f.now) }
+{
+    let (code, got) = match f {
+        Some(f) => (places.place_of(f), places.got_of(f.module)),
+        None => (0, 0),
+    };
+    words.extend_from_slice(&[
+        LinkWord {
+            addr: site,
+            value: code,
+        },
+        LinkWord {
+            addr: site + 4,
+            value: got,
+        },
+    ])
+}
+
+/// The address of a function's descriptor, or zero.
+fn descriptor_addr(places: &Places, f: &Option<Func>) -> u32
+    ensures { (site : ℕ) → record { addr = site; value = result } ∷ [] ≡ descriptor_word (placing_of places.now) site f.now }
+{
+    match f {
+        Some(f) => places.descriptor_of(f).unwrap_or(0),
+        None => 0,
+    }
+}
+
+/// What a site of module `m` holds.
+fn push_value(
+    words: &mut Vec<LinkWord>,
+    places: &Places,
+    m: u32,
+    object: &Object,
+    rel: &Rel,
+    value: &SiteValue,
+) -> Result<(), Memory>
+    requires { rel.now.site + 4 < 2 ^ 32 }
+    ensures { OnOk result (words.new.items ≡ words.old.items ++ value_words (placing_of places.now) m object.entry.now rel.now value.now) }
+{
+    match value {
+        SiteValue::Place(f) => push_word(words, rel.site, places.place_of(f)),
+        SiteValue::Formula(v) => push_word(words, rel.site, formula(places, m, object, rel, v)),
+        SiteValue::Pair(f) => push_pair(words, places, rel.site, f),
+        SiteValue::Descriptor(f) => push_word(words, rel.site, descriptor_addr(places, f)),
+    }
+}
+
+/// The words of these sites with their values, behind others.
+fn push_values(
+    words: &mut Vec<LinkWord>,
+    places: &Places,
+    m: u32,
+    object: &Object,
+    rels: &[Rel],
+    values: &[SiteValue],
+) -> Result<(), Memory>
+    requires { All (λ r. r.site + 4 < 2 ^ 32) rels.now }
+    ensures { OnOk result (words.new.items ≡ words.old.items ++ words_by (placing_of places.now) m object.entry.now rels.now values.now) }
+{
+    for (rel, value) in rels.iter().zip(values) {
+        push_value(words, places, m, object, rel, value)?;
+    }
+    Ok(())
+}
+
+/// All words that loading writes into module `m`, whose sites have these values: the header of its GOT, and then those
+/// of its sites in order.
+pub fn words(
+    alloc: Global,
+    places: &Places,
+    m: u32,
+    object: &Object,
+    values: &[SiteValue],
+) -> Result<Vec<LinkWord>, Memory>
+    requires number { m < MAX_MODULES }
+    requires sound { IsSound object.now }
+    ensures values { IfOk result (λ words. words.items ≡ words_with (placing_of places.now) m object.entry.now values.now) }
+    ensures known { IfOk result (λ words. (l : Linkage) → HasValues l m object.entry.now values.now
+        → words.items ≡ words_of l (placing_of places.now) m object.entry.now) }
+{
+    let mut words = Vec::from_slice(alloc, &got_words(m, object.got))?;
+    let sites = sites(alloc, object)?;
+    push_values(&mut words, places, m, object, &sites, values)?;
+    Ok(words)
+}
