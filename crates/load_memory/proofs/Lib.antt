@@ -1,0 +1,12 @@
+pub mod Added
+pub mod Empty
+pub mod Filling
+pub mod Kept
+pub mod Lists
+pub mod Mapping
+pub mod Marked
+pub mod Outside
+pub mod Placed
+pub mod Steps
+pub mod Watchable
+pub mod Zipped

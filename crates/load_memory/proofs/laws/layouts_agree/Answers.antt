@@ -1,0 +1,5 @@
+use Rattle.load_memory.proofs.Kept as lemma
+use Rattle.load_memory.proofs.laws.layouts_agree.Goals as goal
+
+pub returns : goal.returns
+returns c = lemma.layouts_agree

@@ -1,0 +1,4 @@
+pub mod Modules
+pub mod Placing
+pub mod Stubs
+pub mod Watching
