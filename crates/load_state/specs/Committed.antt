@@ -1,0 +1,49 @@
+-- What a load does.
+use Rattle.std.specs.Prelude.{◌≡◌, ℕ, ◌+◌, ◌<◌, false, List, slice_get, Some, Contains}
+use Rattle.std.specs.FinMap.{get}
+use Rattle.fd_base.specs.declared.map.MapEntry.{MapEntry}
+use Rattle.elf_model.specs.declared.func.Func.{Func}
+use Rattle.guest_mem.specs.Memory.{Memory, byte_at, is_watched}
+use Rattle.placement.specs.Space.{all_held}
+use Rattle.load_model.specs.declared.layout.TheConstants.{LOAD_MAP_SIZE}
+use Rattle.load_model.specs.declared.module.Joining.{Joining}
+use Rattle.load_model.specs.declared.plan.TheConstants.{DESCRIPTOR_SIZE}
+use Rattle.load_model.specs.Descriptors.{descriptors_after}
+use Rattle.load_model.specs.Image.{image_of, load_map_at, place_of, got_of}
+use Rattle.load_model.specs.Joined.{process_after}
+use Rattle.load_model.specs.Layout.{IsLaidOut, HasLoadMap, HasPair, is_in}
+use Rattle.load_model.specs.Linkage.{linkage_of}
+use Rattle.load_state.specs.declared.plan.GroupPlan.{GroupPlan}
+use Rattle.load_state.specs.Loaded.{Loaded, map_at, in_memory, placing_of}
+
+-- each byte of a new module is that of its image
+abbrev pub HasNewImages : Loaded → List Joining → Type 0
+HasNewImages l joining =
+    (j : Joining) (k : ℕ) (e : MapEntry) → Contains joining j → slice_get (map_at l.maps j.number) k ≡ Some e
+    → (i : ℕ) → i < e.memsz
+    → byte_at l.memory (e.addr + i) ≡ image_of (linkage_of l.process) (placing_of l.process l.maps l.addrs) j.number j.object (e.vaddr + i)
+
+-- an address at which the load writes nothing: in no new segment, no new load map and no new descriptor
+pub record IsElsewhere (plan : GroupPlan) (a : ℕ) : Type 0 where
+  pub segments : (j : Joining) (k : ℕ) (e : MapEntry) → Contains plan.joining j → slice_get (map_at plan.maps j.number) k ≡ Some e → is_in e.addr e.memsz a ≡ false
+  pub load_maps : (j : Joining) → Contains plan.joining j → is_in (load_map_at j.number) LOAD_MAP_SIZE a ≡ false
+  pub slots : (f : Func) (at : ℕ) → Contains plan.given (f, at) → is_in at DESCRIPTOR_SIZE a ≡ false
+
+-- the same byte, which is watched where it was
+pub record IsSameAt (old new : Memory) (a : ℕ) : Type 0 where
+  pub byte : byte_at new a ≡ byte_at old a
+  pub watched : is_watched new a ≡ is_watched old a
+
+-- The new modules are live, placed where the plan says, and all that was there stays.
+pub record IsCommitted (old : Loaded) (plan : GroupPlan) (new : Loaded) : Type 0 where
+  pub plan' : new.plan ≡ old.plan
+  pub process' : new.process ≡ process_after old.process plan.joining plan.scope plan.global
+  pub maps' : new.maps ≡ plan.maps
+  pub held' : new.held ≡ all_held plan.items plan.addrs old.held
+  pub addrs' : (f : Func) → get new.addrs f ≡ descriptors_after (get old.addrs) plan.adopted plan.given f
+  pub laid_out : IsLaidOut new.plan (in_memory new.process new.maps) new.memory
+  pub images : HasNewImages new plan.joining
+  pub load_maps : (j : Joining) → Contains plan.joining j → HasLoadMap new.memory j.number (map_at new.maps j.number)
+  pub slots : (f : Func) (a : ℕ) → Contains plan.given (f, a)
+      → HasPair new.memory a (place_of (placing_of new.process new.maps new.addrs) f) (got_of (placing_of new.process new.maps new.addrs) f.module)
+  pub stays : (a : ℕ) → IsElsewhere plan a → IsSameAt old.memory new.memory a

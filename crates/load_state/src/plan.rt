@@ -1,0 +1,37 @@
+//! What a load is to do.
+
+use elf_model::Func;
+use fd_base::{Bytes, MapEntry, Numbers, Seq};
+use load_model::Joining;
+use placement::{Addrs, Items};
+
+/// Load maps by the numbers of their modules.
+pub type Maps = Seq<Seq<MapEntry>>;
+/// The finished bytes of each segment of each new module.
+pub type Parts = Seq<Seq<Bytes>>;
+/// Functions, each with the address of its descriptor.
+pub type Descriptors = Seq<(Func, u32)>;
+
+/// What a load does. `Loader::plan_group` makes it, and `Loader::commit` does it.
+#[derive(Debug, Drop)]
+pub struct GroupPlan {
+    /// The number of the module that is asked for.
+    pub root: u32,
+    /// The new modules in the order in which they were found.
+    pub joining: Seq<Joining>,
+    /// The scope of the new group.
+    pub scope: Numbers,
+    /// The global list after the load.
+    pub global: Numbers,
+    /// The segments of the new modules, and where they go.
+    pub items: Items,
+    pub addrs: Addrs,
+    /// The load maps after the load.
+    pub maps: Maps,
+    /// The new modules' own descriptors.
+    pub adopted: Descriptors,
+    /// The functions that get slots.
+    pub given: Descriptors,
+    /// The bytes of the new modules' segments.
+    pub parts: Parts,
+}
