@@ -1,0 +1,10 @@
+pub mod Mapping
+pub mod Members
+pub mod Ranging
+pub mod Tables
+pub mod Listed
+pub mod Modules
+pub mod Naming
+pub mod Apart
+pub mod Holding
+pub mod Images
