@@ -1,0 +1,5 @@
+pub mod Adding
+pub mod Lists
+pub mod Placing
+pub mod Putting
+pub mod Tiny
