@@ -1,0 +1,83 @@
+-- What is known of the modules that a walk found.
+use Rattle.std.proofs.Common.{◌≡◌, ◌≢◌, ℕ, suc, ◌^◌, ◌<◌, ◌≤◌, Bool, true, false, cond, List, [], ◌∷◌, length, get_or, slice_get, Option, Some, None, refl, sym, ap, subst, arith, All}
+use Rattle.std.specs.Prelude.{AllPairs, Contains, is_some, option_map, ◌==◌}
+use Rattle.std.specs.Option.{option_or}
+use Rattle.std.proofs.lemmas.Bool.{false≢true}
+use Rattle.std.proofs.lemmas.List.Elements.{All-contains}
+use Rattle.fd_base.specs.Fetched.{Files}
+use Rattle.elf_model.specs.declared.object.Object.{Object}
+use Rattle.elf_model.specs.Sound.{IsSound}
+use Rattle.load_model.specs.declared.error.LoadErr.{LoadErr}
+use Rattle.load_model.specs.declared.error.LoadErr.TheVariants.{Refused, StoreFault, Memory}
+use Rattle.load_model.specs.declared.module.Joining.{Joining}
+use Rattle.load_model.specs.declared.module.Live.{Live}
+use Rattle.load_model.specs.declared.module.Process.{Process}
+use Rattle.load_model.specs.Explains.{Explains}
+use Rattle.load_model.specs.Linkage.{joining_at, linkage_with, members_of}
+use Rattle.load_model.specs.Process.{is_live, live_at, object_at}
+use Rattle.load_model.specs.Sites.{first_refusal}
+use Rattle.load_walk.specs.Taken.{IsTaken}
+use Rattle.load_sites.specs.Answers.{Tells}
+use Rattle.load_sites.specs.declared.linker.Linker.{Linker}
+use Rattle.load_sites.specs.Linker.{IsReady, linkage}
+use Rattle.load_keeps.specs.Premises.{HaveOwnNumbers, HasFreeNumber}
+use Rattle.load_keeps.proofs.Apart.{unwrapped}
+use Rattle.load_keeps.proofs.Members.{contains_first, contains_later}
+use Rattle.load_tables.specs.Tables.{AreTables}
+use Rattle.load_plan.specs.Linking.{AreNew, HasFewSymbols, IsScoped, IsUnlinked}
+use Rattle.load_plan.specs.Linking.IsUnlinked.{Filling}
+
+pub own_of : (joining : List Joining) → AllPairs (λ j k. j.number ≢ k.number) joining → HaveOwnNumbers joining
+own_of [] pairs = tt
+own_of (j ∷ joining) pairs = (
+  λ k d lt is. pairs 0 (suc k) d (omega arith) (omega arith) (sym is),
+  own_of joining (λ i k d lt in'. pairs (suc i) (suc k) d (omega arith) (omega arith)),
+)
+
+dead_none : (o : Option Live) → is_some o ≡ false → option_map (λ (live : Live). live.object) o ≡ None
+dead_none None h = refl
+dead_none (Some live) h = absurd (false≢true (sym h))
+
+pub free_of : (p : Process) (joining : List Joining) → All (λ j. j.number < 64) joining → All (λ j. is_live p j.number ≡ false) joining → All (HasFreeNumber p) joining
+free_of p joining small dead k d lt = (small k d lt, dead_none (live_at p (get_or joining k d).number) (dead k d lt))
+
+pub sound_of : (joining : List Joining) → All (λ j. IsTaken j.object) joining → All (λ j. IsSound j.object) joining
+sound_of joining taken k d lt = (taken k d lt).sound
+
+-- ---- the linker
+
+found_in : (joining : List Joining) (m : ℕ) (j : Joining) → joining_at joining m ≡ Some j → Contains joining j
+found_in [] m j is = absurd cc
+found_in (i ∷ joining) m j is = by (i.number == m) is (found_in joining m j)
+  where
+    by : (b : Bool) → cond b (Some i) (joining_at joining m) ≡ Some j → (joining_at joining m ≡ Some j → Contains joining j) → Contains (i ∷ joining) j
+    by true here rest = contains_first i j joining (ap (unwrapped i) here)
+    by false later rest = contains_later i j joining (rest later)
+
+few_of : (p : Process) (joining : List Joining) (m : ℕ) (o : Object) (found : Option Joining) → joining_at joining m ≡ found → All (λ j. IsTaken j.object) joining → HasFewSymbols p
+    → option_or (option_map (λ j. j.object) found) (object_at p m) ≡ Some o → length o.symbols ≤ 2 ^ 32
+few_of p joining m o None at taken few is = let le : length o.symbols ≤ 65536 = few m o is in omega arith
+few_of p joining m o (Some j) at taken few is =
+    let same : j.object ≡ o = ap (unwrapped j.object) is in
+    let le : length j.object.symbols ≤ 65536 = (All-contains (λ i. IsTaken i.object) joining j taken (found_in joining m j at)).few in
+    subst (λ (x : Object). length x.symbols ≤ 2 ^ 32) same (omega arith)
+
+pub is_ready : (l : Linker) → AreTables (linkage_with l.process.now l.joining.now l.scope.now).objects l.tables.now → AreNew l.process.now l.joining.now → HasFewSymbols l.process.now → IsReady l
+unfolding linkage
+is_ready l tables new few = record {
+  tables = tables.each;
+  few = λ m o is. few_of l.process.now l.joining.now m o (joining_at l.joining.now m) refl new.taken few is;
+}
+
+-- ---- errors
+
+pub told_unlinked : (p : Process) (files : Option Files) (root : List ℕ) (joining : List Joining) (scope : List ℕ) (old now : ℕ) (e : LoadErr) → IsScoped p files root joining scope
+    → Tells (λ x. first_refusal (linkage_with p joining scope) (members_of joining) ≡ Some x) e → Explains (IsUnlinked p files root) old now e
+told_unlinked p files root joining scope old now (Refused r) scoped told = Filling (record { joining = joining; scope = scope; scoped = scoped; first = told })
+told_unlinked p files root joining scope old now StoreFault scoped told = absurd told
+told_unlinked p files root joining scope old now Memory scoped told = tt
+
+-- the first of some
+pub first_member : (members slice : List ℕ) (o : Option ℕ) → slice ≡ members → 1 ≤ length members → slice_get members 0 ≡ o → o ≡ Some (get_or slice 0 0)
+first_member [] slice o same some is = absurd (omega arith)
+first_member (m ∷ members) slice o same some is = rw same (sym is)

@@ -1,0 +1,5 @@
+pub mod Joined
+pub mod Mapped
+pub mod Placed
+pub mod Ranged
+pub mod Valued

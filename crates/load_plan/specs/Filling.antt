@@ -1,0 +1,36 @@
+-- The finished bytes of new modules.
+use Rattle.std.specs.Prelude.{◌≡◌, ◌<◌, ℕ, List, Option, option_map}
+use Rattle.std.specs.Option.{option_or}
+use Rattle.fd_base.specs.declared.map.MapEntry.{MapEntry}
+use Rattle.load_model.specs.declared.error.LoadErr.{LoadErr}
+use Rattle.load_model.specs.declared.error.LoadErr.TheVariants.{Refused, StoreFault, Memory}
+use Rattle.load_model.specs.declared.error.LoadRefusal.TheVariants.{NotBuilt, Elf, NoFile, TooLong, TooManyModules, Unresolved, NotCode, DescriptorsFull, NoRoom, BadAddress}
+use Rattle.load_model.specs.declared.module.Joining.{Joining}
+use Rattle.load_model.specs.declared.module.Process.{Process}
+use Rattle.load_model.specs.Definition.{Linkage}
+use Rattle.load_model.specs.Image.{IsImage, Placing}
+use Rattle.load_model.specs.Linkage.{joining_at}
+use Rattle.load_model.specs.Process.{object_at}
+
+-- the link address of a module's GOT, new or live
+abbrev pub gots_of : Process → List Joining → ℕ → Option ℕ
+gots_of p joining m = option_map (λ o. o.got) (option_or (option_map (λ j. j.object) (joining_at joining m)) (object_at p m))
+
+-- the bytes of a new module's segments
+abbrev pub AreImages : Linkage → Placing → (ℕ → List MapEntry) → Joining → List (List ℕ) → Type 0
+AreImages l p maps j parts = IsImage l p j.number j.object (maps j.number) parts
+
+-- n slots are free, and more functions need one
+abbrev pub IsFull : ℕ → ℕ → LoadErr → Type 0
+IsFull n count (Refused TooManyModules) = ⊥
+IsFull n count (Refused (TooLong f)) = ⊥
+IsFull n count (Refused (NoFile f)) = ⊥
+IsFull n count (Refused (Elf f r)) = ⊥
+IsFull n count (Refused (Unresolved m f)) = ⊥
+IsFull n count (Refused (NotCode m f)) = ⊥
+IsFull n count (Refused (BadAddress m site)) = ⊥
+IsFull n count (Refused (DescriptorsFull free)) = (free ≡ n) × (n < count)
+IsFull n count (Refused (NoRoom i)) = ⊥
+IsFull n count (Refused (NotBuilt f)) = ⊥
+IsFull n count StoreFault = ⊥
+IsFull n count Memory = Unit {0}

@@ -1,0 +1,102 @@
+//! The slots that functions get, and the finished bytes of new modules.
+
+ghost use Rattle.std.specs.Prelude.{◌≡◌, ◌≤◌, ◌<◌, ◌++◌, ◌∷◌, [], ℕ, length, map, Some, All, IfErr, IfOk, OnOk};
+ghost use Rattle.std.specs.List.{AllZip, zip, range_with_len};
+ghost use Rattle.symbol_scope.specs.declared.tables.TheConstants.{MAX_MODULES};
+ghost use Rattle.func_desc.specs.Pool.{free_slots};
+ghost use Rattle.load_model.specs.Definition.{Linkage};
+ghost use Rattle.load_model.specs.Image.{IsImage};
+ghost use Rattle.load_model.specs.declared.module.Joining.{Joining};
+ghost use Rattle.load_sites.specs.Values.{IsValues};
+ghost use Rattle.load_walk.specs.Taken.{IsTaken};
+ghost use Rattle.load_image.specs.Bounds.{IsMapOf};
+ghost use Rattle.load_image.specs.Places.{map_at, placing_of};
+ghost use Rattle.load_image.specs.Words.{FitSites};
+ghost use Rattle.load_plan.specs.Filling.{AreImages, IsFull, gots_of};
+
+use elf_model::Func;
+use fd_base::{Bytes, Memory, Seq};
+use func_desc::DescPool;
+use load_image::{Places, image};
+use load_model::{Joining, LoadErr, LoadRefusal, MAX_MODULES, Process};
+use load_process::object_at;
+use load_sites::Values;
+use load_state::{Descriptors, Parts};
+use std::alloc::Global;
+
+/// The free slots in order for these functions, as far as there are any.
+fn given(alloc: Global, pool: &DescPool, wanted: &[Func]) -> Result<Descriptors, Memory>
+    ensures { IfOk result (λ given. given ≡ zip wanted.now (free_slots pool.now)) }
+{
+    let mut given = Seq::new(alloc);
+    for i in 0..pool.free() {
+        let (Some(f), Some(addr)) = (wanted.get(i as usize), pool.free_at(i)) else {
+            return Ok(given);
+        };
+        given.push((*f, addr))?;
+    }
+    Ok(given)
+}
+
+/// A slot for each of these functions, the free ones in order, or DescriptorsFull.
+pub fn slots_for(alloc: Global, pool: &DescPool, wanted: &[Func]) -> Result<Descriptors, LoadErr>
+    ensures given { IfOk result (λ given. given ≡ zip wanted.now (free_slots pool.now)) }
+    ensures enough { OnOk result (length wanted.now ≤ length (free_slots pool.now)) }
+    ensures error { IfErr result (IsFull (length (free_slots pool.now)) (length wanted.now)) }
+{
+    let free = pool.free();
+    if wanted.len() > free as usize {
+        return Err(LoadErr::Refused(LoadRefusal::DescriptorsFull(free)));
+    }
+    Ok(given(alloc, pool, wanted)?)
+}
+
+/// The link address of a module's GOT, new or live.
+fn got_of(process: &Process, joining: &[Joining], m: u32) -> Option<u32>
+    ensures { result ≡ gots_of process.now joining.now m }
+{
+    for new in joining {
+        if new.number == m {
+            return Some(new.object.got);
+        }
+    }
+    Some(object_at(process, m)?.got)
+}
+
+/// The link address of each module's GOT, by module number.
+pub fn gots(
+    alloc: Global,
+    process: &Process,
+    joining: &[Joining],
+) -> Result<Vec<Option<u32>>, Memory>
+    ensures { IfOk result (λ gots. gots.items ≡ map (gots_of process.now joining.now) (range_with_len 0 MAX_MODULES)) }
+{
+    let mut gots = Vec::new(alloc);
+    for m in 0..MAX_MODULES {
+        gots.push(got_of(process, joining, m))?;
+    }
+    Ok(gots)
+}
+
+/// The finished bytes of new modules, whose sites have these values.
+pub fn parts(
+    alloc: Global,
+    places: &Places,
+    joining: &[Joining],
+    values: &[Values],
+) -> Result<Parts, Memory>
+    requires taken { All (λ j. IsTaken j.object) joining.now }
+    requires numbers { All (λ j. j.number < MAX_MODULES) joining.now }
+    requires placed { All (λ j. IsMapOf j.object.segments (map_at places.now.maps j.number)) joining.now }
+    requires count { length values.now ≡ length joining.now }
+    requires fit { AllZip (λ j v. FitSites j.object v) joining.now values.now }
+    ensures { IfOk result (λ parts. (l : Linkage) → IsValues l joining.now values.now → AllZip (AreImages l (placing_of places.now) (map_at places.now.maps)) joining.now parts) }
+{
+    let mut parts = Seq::new(alloc);
+    for i in 0..joining.len() {
+        let new = &joining[i];
+        let part = image(alloc, places, new.number, &new.object, values[i].as_slice())?;
+        parts.push(part)?;
+    }
+    Ok(parts)
+}
