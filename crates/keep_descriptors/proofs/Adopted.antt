@@ -56,7 +56,7 @@ away low high held owner (s ∷ ss) (x ∷ listed) (at ∷ addrs) r placed there
     (away low high (held ++ range_at (item_of owner s (Some x)) at ∷ []) owner ss listed addrs r placed.1 (Contains-append_left held (range_at (item_of owner s (Some x)) at ∷ []) r there))
 
 -- the segments of one module share no placed address
-placed_apart : (low high : ℕ) (held : List Held) (owner : ℕ) (ss : List Segment) (listed addrs : List ℕ)
+pub placed_apart : (low high : ℕ) (held : List Held) (owner : ℕ) (ss : List Segment) (listed addrs : List ℕ)
     → Placed low high held (items_of owner ss listed) addrs → AllPairs PlacedApart (load_map_of ss addrs)
 placed_apart low high held owner [] listed addrs placed = λ i j d lt within. absurd (omega arith)
 placed_apart low high held owner (s ∷ ss) [] [] placed = absurd placed

@@ -1,0 +1,4 @@
+pub mod Numbers
+pub mod Extended
+pub mod Slots
+pub mod Kept
