@@ -1,9 +1,12 @@
 -- What is known of the modules that a walk found.
 use Rattle.std.proofs.Common.{◌≡◌, ◌≢◌, ℕ, suc, ◌^◌, ◌<◌, ◌≤◌, Bool, true, false, cond, List, [], ◌∷◌, length, get_or, slice_get, Option, Some, None, refl, sym, ap, subst, arith, All}
-use Rattle.std.specs.Prelude.{AllPairs, Contains, is_some, option_map, ◌==◌}
+use Rattle.std.specs.Prelude.{AllPairs, Contains, is_some, option_map, not, ◌==◌}
+use Rattle.std.specs.List.{range_with_len}
 use Rattle.std.specs.Option.{option_or}
 use Rattle.std.proofs.lemmas.Bool.{false≢true}
 use Rattle.std.proofs.lemmas.List.Elements.{All-contains}
+use Rattle.std.proofs.lemmas.List.FromFn.{length-range_with_len}
+use Rattle.std.proofs.lemmas.List.Sums.{length-filter, count_by-le-length}
 use Rattle.fd_base.specs.Fetched.{Files}
 use Rattle.elf_model.specs.declared.object.Object.{Object}
 use Rattle.elf_model.specs.Sound.{IsSound}
@@ -81,3 +84,17 @@ told_unlinked p files root joining scope old now Memory scoped told = tt
 pub first_member : (members slice : List ℕ) (o : Option ℕ) → slice ≡ members → 1 ≤ length members → slice_get members 0 ≡ o → o ≡ Some (get_or slice 0 0)
 first_member [] slice o same some is = absurd (omega arith)
 first_member (m ∷ members) slice o same some is = rw same (sym is)
+
+-- ---- numbers
+
+pub below_of : (p : Process) (joining : List Joining) → All (HasFreeNumber p) joining → All (λ j. j.number < 64) joining
+below_of p joining free k d lt = (free k d lt).0
+
+-- there are no more new modules than free numbers
+pub few_joining : (p : Process) (files : Option Files) (root : List ℕ) (joining : List Joining) (scope : List ℕ) → IsScoped p files root joining scope → length joining ≤ 64
+few_joining p files root joining scope scoped =
+    let few = scoped.walk.walked.few in
+    let counted = length-filter (λ m. not (is_live p m)) (range_with_len 0 64) in
+    let all = count_by-le-length (λ m. not (is_live p m)) (range_with_len 0 64) in
+    let len : length (range_with_len 0 64) ≡ 64 = length-range_with_len 0 64 in
+    omega (arith, few, counted, all, len)

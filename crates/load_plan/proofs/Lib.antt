@@ -1,5 +1,10 @@
 pub mod Joined
+pub mod Laid
 pub mod Mapped
 pub mod Placed
+pub mod Placings
+pub mod Planned
 pub mod Ranged
+pub mod Refusing
+pub mod Roomed
 pub mod Valued

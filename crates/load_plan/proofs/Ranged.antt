@@ -1,18 +1,6 @@
--- Lists that grow by one value a turn.
-use Rattle.std.proofs.Common.{◌≡◌, ℕ, zero, suc, ◌+◌, ◌<◌, ◌≤◌, List, [], ◌∷◌, ◌++◌, length, get_or, take, map, slice_get, Option, Some, refl, sym, ap, ◌∙◌, arith, add-zero}
-use Rattle.std.specs.List.{range_with_len, zip}
-
-growing : {X : Type 0} (f : ℕ → X) (a n : ℕ) → map f (range_with_len a (suc n)) ≡ map f (range_with_len a n) ++ f (a + n) ∷ []
-growing f a zero = ap (λ x. f x ∷ []) (sym (add-zero a))
-growing f a (suc n) =
-    let next : a + 1 + n ≡ a + suc n = omega arith in
-    ap (λ rest. f a ∷ rest) (growing f (a + 1) n ∙ ap (λ x. map f (range_with_len (a + 1) n) ++ f x ∷ []) next)
-
-pub range_more : {X : Type 0} (f : ℕ → X) (n : ℕ) → map f (range_with_len 0 (n + 1)) ≡ map f (range_with_len 0 n) ++ f n ∷ []
-range_more f n =
-    let one : n + 1 ≡ suc n = omega arith in
-    let from : 0 + n ≡ n = omega arith in
-    rw one (growing f 0 n ∙ ap (λ x. map f (range_with_len 0 n) ++ f x ∷ []) from)
+-- Two lists paired, which grow by one value a turn.
+use Rattle.std.proofs.Common.{◌≡◌, ℕ, zero, suc, ◌+◌, ◌<◌, ◌≤◌, List, [], ◌∷◌, ◌++◌, length, get_or, take, slice_get, Option, Some, refl, ap, arith}
+use Rattle.std.specs.List.{zip}
 
 -- one more of each list
 pub zip_more : {X Y : Type 0} (xs : List X) (ys : List Y) (i : ℕ) (d : X) (y : Y) → i < length xs → slice_get ys i ≡ Some y

@@ -1,3 +1,4 @@
 pub mod Linking
 pub mod Placing
 pub mod Filling
+pub mod Layout

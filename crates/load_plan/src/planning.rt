@@ -1,0 +1,111 @@
+//! The plan of a load.
+
+ghost use Rattle.std.specs.Prelude.{◌≡◌, ◌≤◌, length, All, IfOk, IfErr, OnOk};
+ghost use Rattle.guest_mem.specs.Memory.{Memory as GuestMemory};
+ghost use Rattle.symbol_scope.specs.declared.tables.TheConstants.{MAX_MODULES};
+ghost use Rattle.load_model.specs.Explains.{Explains};
+ghost use Rattle.load_model.specs.Linkage.{linkage_with};
+ghost use Rattle.load_walk.specs.Taken.{IsTaken};
+ghost use Rattle.load_sites.specs.Values.{IsValues};
+ghost use Rattle.load_image.specs.Bounds.{EndsBelow, IsMapOf};
+ghost use Rattle.load_state.specs.Accepts.{IsPlan};
+ghost use Rattle.load_state.specs.Loaded.{map_at};
+ghost use Rattle.load_state.specs.Refused.{IsRefused};
+ghost use Rattle.load_tables.specs.Tables.{HasTables};
+ghost use Rattle.load_plan.specs.Filling.{AreFinished, placing_by};
+ghost use Rattle.load_plan.specs.Layout.{IsPlannable, loaded_by};
+ghost use Rattle.load_plan.specs.Linking.{AreNew};
+
+use crate::filling::{gots, parts};
+use crate::layout::{Layout, Standing, lay_out};
+use crate::linking::{Linked, link};
+use fd_base::{Memory, Name, Store};
+use func_desc::DescPool;
+use load_image::{Descriptors, Places};
+use load_model::LoadErr;
+use load_process::global_after;
+use load_state::{GroupPlan, Parts};
+use placement::Ranges;
+use std::alloc::{AllocError, Global};
+use symbol_scope::Tables;
+
+/// The finished bytes of new modules, which are linked and laid out.
+fn finished(
+    alloc: Global,
+    standing: &Standing,
+    pool: &DescPool,
+    linked: &Linked,
+    layout: &Layout,
+) -> Result<Parts, Memory>
+    requires modules { length standing.now.process.now.modules ≡ MAX_MODULES }
+    requires new { AreNew standing.now.process.now linked.now.joining }
+    requires ends { All (All EndsBelow) layout.now.maps }
+    requires mapped { All (λ j. IsMapOf j.object.segments (map_at layout.now.maps j.number)) linked.now.joining }
+    requires values { IsValues (linkage_with standing.now.process.now linked.now.joining linked.now.scope) linked.now.joining linked.now.values }
+    ensures { IfOk result (AreFinished (linkage_with standing.now.process.now linked.entry.now.joining linked.entry.now.scope)
+        (placing_by standing.now.process.now pool.now.addrs linked.entry.now.joining layout.entry.now.maps layout.entry.now.adopted layout.entry.now.given)
+        linked.entry.now.joining layout.entry.now.maps) }
+{
+    let joining = linked.joining.as_slice();
+    let gots = gots(alloc, standing.process, joining)?;
+    let adopted = layout.adopted.as_slice();
+    let descriptors = Descriptors::new(alloc, pool, adopted, layout.given.as_slice())?;
+    let places = Places::new(layout.maps.as_slice(), &gots, &descriptors);
+    parts(alloc, &places, joining, linked.values.as_slice())
+}
+
+/// Makes room for so many adoptions. There is never room for 2^32 of them.
+fn reserve(pool: &mut DescPool, n: usize) -> Result<(), Memory>
+    ensures room { OnOk result (n ≤ pool.new.room) }
+    ensures stays { pool.new ≡ record pool.old { room = pool.new.room } }
+{
+    match u32::try_from(n) {
+        Ok(n) => pool.reserve(n),
+        Err(_) => Err(AllocError),
+    }
+}
+
+/// Plans the load of the module of this name: links it and all that it needs, lays it out, and makes the bytes of each
+/// new segment. With `asked` the global list is to gain the new modules. Nothing is loaded: the ranges and the
+/// descriptors stay, with room for what the plan adds, and so do the tables of live modules.
+pub fn plan_group<S: Store>(
+    alloc: Global,
+    standing: &Standing,
+    ranges: &mut Ranges,
+    tables: &mut Tables,
+    pool: &mut DescPool,
+    store: &mut S,
+    root: &Name,
+    asked: bool,
+) -> Result<GroupPlan, LoadErr>
+    requires standing { IsPlannable standing.now ranges.old tables.old pool.old }
+    ensures plan { IfOk result (λ p. (memory : GuestMemory) → IsPlan (loaded_by standing.now ranges.old pool.old memory) (S.files store.old) root.now asked p) }
+    ensures taken { IfOk result (λ p. All (λ j. IsTaken j.object) p.joining) }
+    ensures ranges_room { IfOk result (λ p. length p.items ≤ ranges.new.room) }
+    ensures pool_room { IfOk result (λ p. length p.adopted ≤ pool.new.room) }
+    ensures error { IfErr result (λ e. (memory : GuestMemory) → Explains (IsRefused (loaded_by standing.now ranges.old pool.old memory) (S.files store.old) root.now)
+        (S.faults store.old) (S.faults store.new) e) }
+    ensures ranges { ranges.new ≡ record ranges.old { room = ranges.new.room } }
+    ensures pool { pool.new ≡ record pool.old { room = pool.new.room } }
+    ensures tables { HasTables standing.now.process.now tables.new }
+    ensures files { S.files store.new ≡ S.files store.old }
+    ensures count { S.faults store.old ≤ S.faults store.new }
+{
+    let linked = link(alloc, standing.process, tables, pool, store, root)?;
+    let layout = lay_out(alloc, standing, ranges, pool, &linked)?;
+    let parts = finished(alloc, standing, pool, &linked, &layout)?;
+    let global = global_after(alloc, standing.process, asked, linked.scope.as_slice())?;
+    reserve(pool, layout.adopted.len())?;
+    Ok(GroupPlan {
+        root: linked.root,
+        joining: linked.joining,
+        scope: linked.scope,
+        global,
+        items: layout.items,
+        addrs: layout.addrs,
+        maps: layout.maps,
+        adopted: layout.adopted,
+        given: layout.given,
+        parts,
+    })
+}
