@@ -1,14 +1,23 @@
--- The counts and bounds that every loader keeps.
-use Rattle.std.specs.Prelude.{◌≡◌, ℕ, ◌*◌, ◌^◌, ◌<◌, ◌≤◌, length}
+-- How the parts of a loader fit together.
+use Rattle.std.specs.Prelude.{◌≡◌, ◌*◌, ◌≤◌, length, count_by, is_some, Option, IfSome}
 use Rattle.elf_model.specs.declared.constants.TheConstants.{MAX_SEGMENTS}
+use Rattle.func_desc.specs.Pool.{Pool}
 use Rattle.placement.specs.Space.{Space}
-use Rattle.mod_load.specs.declared.plan.MemPlan.{MemPlan}
-use Rattle.mod_load.specs.declared.module.TheConstants.{MAX_MODULES}
-use Rattle.mod_load.specs.Plan.{low_of, high_of}
+use Rattle.symbol_scope.specs.Slots.{Slots}
+use Rattle.load_model.specs.declared.module.Process.{Process}
+use Rattle.load_model.specs.declared.plan.MemPlan.{MemPlan}
+use Rattle.load_model.specs.declared.plan.TheConstants.{DESCRIPTORS}
+use Rattle.load_model.specs.Plan.{low_of, high_of}
+use Rattle.load_plan.specs.Linking.{HasFewSymbols}
+use Rattle.load_tables.specs.Tables.{HasTables}
 
-pub record IsFit (plan : MemPlan) (modules : ℕ) (space : Space) : Type 0 where
+-- The space of modules and the slots are those of the plan, and where there are tables, each live module has its own.
+pub record IsFit (plan : MemPlan) (process : Process) (space : Space) (pool : Pool) (tables : Option Slots) : Type 0 where
   pub low' : space.low ≡ low_of plan
   pub high' : space.high ≡ high_of plan
-  pub end : space.high < 2 ^ 32
-  pub few : modules ≤ MAX_MODULES
-  pub few_ranges : length space.held ≤ MAX_SEGMENTS * modules
+  pub base' : pool.base ≡ DESCRIPTORS
+  pub slots' : pool.slots ≡ plan.descriptors
+  pub tabled : IfSome tables (HasTables process)
+  pub few : HasFewSymbols process
+  -- a module has no more ranges than segments
+  pub count : length space.held ≤ MAX_SEGMENTS * count_by is_some process.modules

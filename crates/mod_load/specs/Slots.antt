@@ -1,23 +1,24 @@
--- What the slots of a module hold.
-use Rattle.std.specs.Prelude.{ℕ, List, map, slice_get, Option, option_and_then}
-use Rattle.elf_model.specs.declared.object.Rel.{Rel}
-use Rattle.mod_load.specs.Built.{function_of}
-use Rattle.mod_load.specs.declared.module.Module.{Module}
-use Rattle.mod_load.specs.declared.module.SlotPair.{SlotPair}
-use Rattle.mod_load.specs.Image.{placed}
+-- The words of slots in memory.
+use Rattle.std.specs.Prelude.{◌≡◌, ℕ, ◌+◌, ◌^◌, ◌<◌, ◌≤◌, List, length, Some, slice_index}
+use Rattle.std.specs.Int.{w32, to_le_bytes}
+use Rattle.fd_base.specs.declared.map.MapEntry.{MapEntry}
+use Rattle.guest_mem.specs.Memory.{Memory, byte_at}
+use Rattle.load_model.specs.declared.module.Process.{Process}
+use Rattle.load_model.specs.declared.words.SlotPair.{SlotPair}
+use Rattle.load_state.specs.Slots.{slot_pair_of}
 
--- where a slot lies, and its two words: the placed entry point of its function, and the placed GOT
-abbrev pub slot_pair_at : Module → Rel → SlotPair
-slot_pair_at m r = record {
-  addr = placed m.load_map r.site;
-  code = placed m.load_map (function_of m.object r);
-  got = placed m.load_map m.object.got;
-}
+-- a word stands at an address, little-endian
+abbrev pub HasWordAt : Memory → ℕ → ℕ → Type 0
+HasWordAt memory at w = (i : ℕ) → i < 4 → byte_at memory (at + i) ≡ slice_index (to_le_bytes w32 w) i
 
--- the slots of a module in order
-abbrev pub slot_pairs_of : Module → List SlotPair
-slot_pairs_of m = map (slot_pair_at m) m.object.jmprels
+-- a slot's two words stand in it
+pub record IsFilled (memory : Memory) (s : SlotPair) : Type 0 where
+  pub inside : s.addr + 8 ≤ length memory.bytes
+  pub code' : HasWordAt memory s.addr s.code
+  pub got' : HasWordAt memory (s.addr + 4) s.got
+  pub code_small : s.code < 2 ^ 32
+  pub got_small : s.got < 2 ^ 32
 
--- slot k of module m, both counted from 0
-abbrev pub slot_pair_of : List Module → ℕ → ℕ → Option SlotPair
-slot_pair_of modules m k = option_and_then (λ live. slice_get (slot_pairs_of live) k) (slice_get modules m)
+-- each slot of a live module is filled
+abbrev pub HasSlots : Process → List (List MapEntry) → Memory → Type 0
+HasSlots p maps memory = (m k : ℕ) (s : SlotPair) → slot_pair_of p maps m k ≡ Some s → IsFilled memory s

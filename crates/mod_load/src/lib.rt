@@ -1,29 +1,16 @@
-//! Loading: the plan of a load, with every refusal and all memory that it takes, and its commit.
+//! The loader: one process, where its modules are placed, and its memory.
 #![tactic(auto)]
 
-mod address;
-mod built;
-mod error;
-mod fetch;
-mod file;
-mod image;
-mod items;
-mod laws;
+mod accessors;
+mod descriptors;
 mod loader;
-mod module;
-mod placing;
-mod plan;
 mod slots;
-mod words;
-
-pub use error::{LoadErr, LoadRefusal};
-pub use laws::{loads_are_determined, plans_are_determined};
-pub use loader::Loader;
-pub use module::{
-    Added, GroupPlan, Image, LOAD_MAP_SIZE, LOAD_MAPS, LinkWord, LoadMap, MAX_MODULES, Module,
-    RESOLVER, SlotPair,
-};
-pub use plan::{DESCRIPTOR_SIZE, DESCRIPTORS, MemPlan, PlaceLine, Places, THREADS};
-
+mod tables;
 #[cfg(test)]
 mod tests;
+
+pub use load_model::{
+    LoadErr, LoadRefusal, MAX_MODULES, MemPlan, PlaceLine, Places, Process, SlotPair, THREADS,
+};
+pub use load_state::GroupPlan;
+pub use loader::Loader;

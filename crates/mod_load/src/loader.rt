@@ -1,80 +1,98 @@
 //! The loader.
 
-ghost use Rattle.std.specs.Prelude.{◌≡◌, ◌≤◌, ◌<◌, ◌^◌, Some, IfOk, IfErr, IfSome, length, option_map, slice_get};
-ghost use Rattle.std.specs.Option.{option_copied};
-ghost use Rattle.mod_load.specs.Plan.{Fits, high_of};
-ghost use Rattle.mod_load.specs.Loaded.{State, IsUnchanged, IsConsistent, empty_over, with_added};
-ghost use Rattle.mod_load.specs.Accepts.{IsPlan, IsRefused, Explains, IsReady, MayCommit, number_of};
-ghost use Rattle.mod_load.specs.Slots.{slot_pair_of};
+ghost use Rattle.std.specs.Prelude.{◌≡◌, [], replicate, IfOk};
+ghost use Rattle.symbol_scope.specs.declared.tables.TheConstants.{MAX_MODULES};
 
-use crate::error::{LoadErr, LoadRefusal};
-use crate::fetch::fetched;
-use crate::module::{Added, GroupPlan, MAX_MODULES, Module, SlotPair};
-use crate::placing::added;
-use crate::plan::{MemPlan, listed_for};
+use crate::descriptors::{adopt_all, give_all};
 use crate::slots::slot_pair;
-use fd_base::{Memory, Name, Store};
+use crate::tables::tables_or_new;
+use fd_base::{Memory, Name, Seq, Store};
+use func_desc::DescPool;
+use guest_mem::Guest;
+use load_memory::new_memory;
+use load_model::{DESCRIPTORS, LoadErr, MAX_MODULES, MemPlan, Process, SlotPair};
+use load_places::{put_descriptors, put_modules};
+use load_plan::{Standing, plan_group};
+use load_process::{join, name_at, new_process};
+use load_state::{GroupPlan, Maps};
 use placement::Ranges;
-use std::alloc::{AllocError, Global};
+use std::alloc::Global;
 use std::marker::Model;
+use symbol_scope::Tables;
 
-/// One process: its memory plan, its live modules, and the ranges that they hold.
+/// One process: its memory plan, its modules, where they are placed, and their memory.
 #[derive(Drop)]
 pub struct Loader {
     alloc: Global,
-    plan: MemPlan,
-    modules: Vec<Module>,
-    ranges: Ranges,
+    pub(crate) plan: MemPlan,
+    pub(crate) process: Process,
+    pub(crate) maps: Maps,
+    pub(crate) ranges: Ranges,
+    pub(crate) pool: DescPool,
+    /// Those of the live modules. None once a load has added some, until the next one is planned.
+    tables: Option<Tables>,
+    pub(crate) guest: Guest,
 }
 
 impl Model for Loader {
-    ghost use Rattle.std.specs.Prelude.{◌-◌, vec_len, vec_capacity};
-    ghost use Rattle.mod_load.specs.Loaded.{State};
+    ghost use Rattle.std.specs.Coded.{codes};
+    ghost use Rattle.func_desc.specs.Functions.{addr_map_code};
+    ghost use Rattle.load_state.specs.Loaded.{State};
     ghost use Rattle.mod_load.specs.Fit.{IsFit};
 
     ghost Value = { State };
 
+    ghost coded = { Prim.hlevel (codes, addr_map_code) };
+
     ghost view = { λ l. record {
-      loaded = record { plan = l.plan; modules = l.modules.items; held = l.ranges.held };
-      module_room = vec_capacity l.modules - vec_len l.modules;
+      loaded = record { plan = l.plan; process = l.process; maps = l.maps; held = l.ranges.held; addrs = l.pool.addrs; memory = l.guest };
       range_room = l.ranges.room;
+      descriptor_room = l.pool.room;
     } };
 
-    ghost invariant = { λ l. IsFit l.plan (vec_len l.modules) l.ranges };
-}
-
-/// The number of the live module of this name.
-fn number_of(modules: &[Module], name: &Name) -> Option<usize>
-    ensures number { result ≡ number_of modules.now name.now }
-    ensures within { IfSome result (λ number. number < length modules.now) }
-{
-    modules
-        .iter()
-        .position(|m| m.name.as_slice() == name.as_slice())
+    ghost invariant = { λ l. IsFit l.plan l.process l.ranges l.pool l.tables };
 }
 
 impl Loader {
-    /// A process without modules over a memory plan that fits.
+    ghost use Rattle.std.specs.Prelude.{◌≡◌, ◌≤◌, false, IfErr, IfOk, option_map};
+    ghost use Rattle.load_model.specs.Explains.{Explains};
+    ghost use Rattle.load_model.specs.Plan.{Fits};
+    ghost use Rattle.load_model.specs.Process.{live_at};
+    ghost use Rattle.load_state.specs.Accepts.{IsPlan};
+    ghost use Rattle.load_state.specs.Committed.{IsCommitted};
+    ghost use Rattle.load_state.specs.Consistent.{IsConsistent};
+    ghost use Rattle.load_state.specs.Loaded.{IsUnchanged};
+    ghost use Rattle.load_state.specs.Loading.{IsStart};
+    ghost use Rattle.load_state.specs.Refused.{IsRefused};
+    ghost use Rattle.load_state.specs.Slots.{slot_pair_of};
+    ghost use Rattle.mod_load.specs.Ready.{MayCommit};
+
+    /// A process without modules over a memory plan that fits. All of the guest's memory is taken here.
     pub fn new(alloc: Global, plan: &MemPlan) -> Result<Loader, Memory>
         requires { Fits plan.now }
-        ensures empty { IfOk result (λ l. l.loaded ≡ empty_over plan.now) }
+        ensures start { IfOk result (λ l. IsStart plan.now l.loaded) }
         ensures consistent { IfOk result (λ l. IsConsistent l.loaded) }
     {
+        let process = new_process(alloc)?;
+        let maps = no_maps(alloc)?;
         let ranges = Ranges::new(alloc, plan.low(), plan.high())?;
+        let pool = DescPool::new(alloc, DESCRIPTORS, plan.descriptors)?;
+        let guest = new_memory(alloc, plan)?;
         Ok(Loader {
             alloc,
             plan: plan.copy(alloc)?,
-            modules: Vec::new(alloc),
+            process,
+            maps,
             ranges,
+            pool,
+            tables: None,
+            guest,
         })
     }
 
-    /// Plans the load of the module of this name. The plan has every byte that the load places, and nothing is
-    /// loaded before `commit`: the process stays, whatever the answer. A module that is live isn't fetched
-    /// again, and the plan adds nothing.
-    ///
-    /// With plain objects `lazy` and `global` change nothing: every slot is bound, and each of them leads to
-    /// its own module.
+    /// Plans the load of the module of this name and of all that it needs. Nothing is loaded before `commit`: the
+    /// process stays, whatever the answer. With `global` the global list is to gain the new modules. With `lazy` slots
+    /// would be bound at their first calls, which is not built yet.
     pub fn plan_group<S: Store>(
         &mut self,
         store: &mut S,
@@ -82,8 +100,9 @@ impl Loader {
         lazy: bool,
         global: bool,
     ) -> Result<GroupPlan, LoadErr>
-        requires { IsConsistent self.old.loaded }
-        ensures plan { IfOk result (IsPlan self.old.loaded (S.files store.old) root.now) }
+        requires consistent { IsConsistent self.old.loaded }
+        requires eager { lazy ≡ false }
+        ensures plan { IfOk result (IsPlan self.old.loaded (S.files store.old) root.now global) }
         ensures ready { IfOk result (MayCommit self.new) }
         ensures error { IfErr result (Explains (IsRefused self.old.loaded (S.files store.old) root.now) (S.faults store.old) (S.faults store.new)) }
         ensures stays { IsUnchanged self.old self.new }
@@ -91,91 +110,95 @@ impl Loader {
         ensures files { S.files store.new ≡ S.files store.old }
         ensures count { S.faults store.old ≤ S.faults store.new }
     {
-        let _ = (lazy, global);
-        self.planned(store, root)
+        let _ = lazy;
+        self.guest.whole();
+        let mut tables = tables_or_new(self.alloc, self.tables.take(), &self.process)?;
+        let standing = Standing {
+            plan: &self.plan,
+            process: &self.process,
+            maps: self.maps.as_slice(),
+        };
+        let plan = plan_group(
+            self.alloc,
+            &standing,
+            &mut self.ranges,
+            &mut tables,
+            &mut self.pool,
+            store,
+            root,
+            global,
+        );
+        self.tables = Some(tables);
+        plan
     }
 
-    /// The plan, for which there is room.
-    fn planned<S: Store>(&mut self, store: &mut S, root: &Name) -> Result<GroupPlan, LoadErr>
-        ensures plan { IfOk result (IsPlan self.old.loaded (S.files store.old) root.now) }
-        ensures ready { IfOk result (MayCommit self.new) }
-        ensures error { IfErr result (Explains (IsRefused self.old.loaded (S.files store.old) root.now) (S.faults store.old) (S.faults store.new)) }
-        ensures stays { IsUnchanged self.old self.new }
-        ensures files { S.files store.new ≡ S.files store.old }
-        ensures count { S.faults store.old ≤ S.faults store.new }
-    {
-        if let Some(number) = number_of(&self.modules, root) {
-            return Ok(GroupPlan {
-                root: number as u32,
-                added: None,
-            });
-        }
-        if self.modules.len() >= MAX_MODULES {
-            return Err(LoadErr::Refused(LoadRefusal::TooManyModules));
-        }
-        self.modules.reserve(1)?;
-        let number = self.modules.len() as u32;
-        let listed = listed_for(self.plan.places.as_slice(), root);
-        let object = fetched(self.alloc, store, root)?;
-        let added = added(self.alloc, &mut self.ranges, number, root, listed, object)?;
-        Ok(GroupPlan {
-            root: number,
-            added: Some(added),
-        })
-    }
-
-    /// Does what was planned, and answers the number of the module. It takes no memory and can't fail.
+    /// Does a load as it was planned, and answers the number of the module that was asked for. Takes no memory, and
+    /// can't fail.
     pub fn commit(&mut self, plan: GroupPlan) -> u32
         requires consistent { IsConsistent self.old.loaded }
         requires ready { MayCommit self.old plan }
         ensures number { result ≡ plan.root }
-        ensures loaded { self.new.loaded ≡ with_added self.old.loaded plan.added }
+        ensures committed { IsCommitted self.old.loaded plan self.new.loaded }
         ensures consistent { IsConsistent self.new.loaded }
     {
-        let GroupPlan { root, added } = plan;
-        if let Some(added) = added {
-            self.add(added);
-        }
+        let GroupPlan {
+            root,
+            joining,
+            scope,
+            global,
+            items,
+            addrs,
+            maps,
+            adopted,
+            given,
+            parts,
+        } = plan;
+        self.guest.whole();
+        put_modules(
+            &mut self.guest,
+            joining.as_slice(),
+            maps.as_slice(),
+            parts.as_slice(),
+        );
+        join(&mut self.process, joining, scope, global);
+        put_descriptors(
+            &mut self.guest,
+            &self.process,
+            maps.as_slice(),
+            given.as_slice(),
+        );
+        self.ranges.take(&items, &addrs);
+        adopt_all(&mut self.pool, adopted.as_slice());
+        give_all(&mut self.pool, given.as_slice());
+        self.maps = maps;
+        self.tables = None;
         root
     }
 
-    /// Adds a planned module, for which there is room.
-    fn add(&mut self, added: Added)
-        requires { IsReady self.old added }
-        ensures { self.new.loaded ≡ with_added self.old.loaded (Some added) }
-    {
-        let Added {
-            module,
-            items,
-            addrs,
-        } = added;
-        self.ranges.take(&items, &addrs);
-        match self.modules.push(module) {
-            Ok(()) => {}
-            Err(_) => unreachable!(),
-        }
-    }
-
-    /// What slot `k` of module `m` holds. None exactly where there is no such module or slot.
+    /// What slot `k` of module `m` holds, both counted from 0. None exactly where there is no such module or slot.
     pub fn slot_pair(&self, m: u32, k: u32) -> Option<SlotPair>
         requires { IsConsistent self.now.loaded }
-        ensures { result ≡ slot_pair_of self.now.loaded.modules m k }
+        ensures { result ≡ slot_pair_of self.now.loaded.process self.now.loaded.maps m k }
     {
-        slot_pair(self.live(m)?, k)
+        self.guest.whole();
+        slot_pair(&self.process, self.maps.as_slice(), &self.guest, m, k)
     }
 
-    /// The live module of this number.
-    fn live(&self, m: u32) -> Option<&Module>
-        ensures module { option_copied result ≡ slice_get self.now.loaded.modules m }
-        ensures end { high_of self.now.loaded.plan < 2 ^ 32 }
-    {
-        self.modules.get(m as usize)
-    }
-
-    /// The name of module `m`. None exactly where no live module has this number.
+    /// The name of a live module.
     pub fn module_name(&self, m: u32) -> Option<&Name>
-        ensures { option_map (λ name. name.now) result ≡ option_map (λ live. live.name) (slice_get self.now.loaded.modules m) }
+        ensures { option_map (λ name. name.now) result ≡ option_map (λ live. live.name) (live_at self.now.loaded.process m) }
     {
-        Some(&self.live(m)?.name)
+        name_at(&self.process, m)
     }
+}
+
+/// A load map without entries for each number.
+fn no_maps(alloc: Global) -> Result<Maps, Memory>
+    ensures { IfOk result (λ maps. maps ≡ replicate MAX_MODULES []) }
+{
+    let mut maps = Seq::new(alloc);
+    for _ in 0..MAX_MODULES {
+        maps.push(Seq::new(alloc))?;
+    }
+    Ok(maps)
 }

@@ -1,51 +1,70 @@
-//! What the slots of a module hold.
+//! What the slots of modules hold.
 
-ghost use Rattle.std.specs.Prelude.{◌≡◌, ◌+◌, ◌^◌, ◌≤◌, length, All, slice_get};
-ghost use Rattle.std.specs.List.{AllZip};
-ghost use Rattle.elf_model.specs.Sound.{IsSound};
-ghost use Rattle.mod_load.specs.Bounds.{EndsBelow, IsMapOf};
-ghost use Rattle.mod_load.specs.Kept.{HasParts, HasImage, spans_word, stored_word};
-ghost use Rattle.mod_load.specs.Slots.{slot_pairs_of};
+ghost use Rattle.std.specs.Prelude.{◌≡◌, ℕ, ◌+◌, ◌^◌, ◌<◌, ◌≤◌, All, length};
+ghost use Rattle.guest_mem.specs.Memory.{byte_at};
+ghost use Rattle.load_image.specs.Bounds.{EndsBelow};
+ghost use Rattle.load_model.specs.declared.words.SlotPair.{SlotPair};
+ghost use Rattle.load_state.specs.Loaded.{map_at};
+ghost use Rattle.load_state.specs.Slots.{slot_pair_of};
+ghost use Rattle.mod_load.specs.Slots.{HasSlots, HasWordAt, IsFilled};
 
-use crate::address::placed;
-use crate::module::{Module, SlotPair};
-use fd_base::{Bytes, MapEntry, word_in};
+use fd_base::MapEntry;
+use guest_mem::Guest;
+use load_image::{LoadMap, placed};
+use load_model::{Process, SlotPair};
+use load_process::object_at;
 
-/// Whether the word at a link address is in the memory of a segment.
-fn spans_word(entry: &MapEntry, v: u32) -> bool
-    ensures { result ≡ spans_word entry.now v }
+/// The load map of a module, and no entry for a number that has none.
+pub(crate) fn map_of(maps: &[LoadMap], m: u32) -> &[MapEntry]
+    ensures { result.now ≡ map_at maps.now m }
 {
-    let end = u64::from(entry.vaddr) + u64::from(entry.memsz);
-    entry.vaddr <= v && u64::from(v) + 4 <= end
-}
-
-/// The word that the placed bytes have at a link address, by the first segment that has it whole.
-fn stored_word(load_map: &[MapEntry], image: &[Bytes], v: u32) -> u32
-    requires { HasParts load_map.now image.now }
-    ensures { result ≡ stored_word load_map.now image.now v }
-{
-    for (i, entry) in load_map.iter().enumerate() {
-        if spans_word(entry, v) {
-            return word_in(image[i].as_slice(), (v - entry.vaddr) as usize);
-        }
+    match maps.get(m as usize) {
+        Some(map) => map.as_slice(),
+        None => &[],
     }
-    0
 }
 
-/// What slot `k` holds.
-pub fn slot_pair(live: &Module, k: u32) -> Option<SlotPair>
-    requires sound { IsSound live.now.object }
-    requires mapped { IsMapOf live.now.object.segments live.now.load_map }
-    requires ends { All EndsBelow live.now.load_map }
-    requires image { HasImage live.now }
-    ensures { result ≡ slice_get (slot_pairs_of live.now) k }
+/// The little-endian word at an address, whatever it is mapped as.
+fn word_at(guest: &Guest, addr: u32) -> u32
+    requires { addr + 4 ≤ length guest.now.bytes }
+    ensures { (w : ℕ) → w < 2 ^ 32 → HasWordAt guest.now addr w → result ≡ w }
 {
-    let rel = live.object.jmprels.as_slice().get(k as usize)?;
-    let load_map = live.load_map.as_slice();
-    let image = live.image.as_slice();
-    Some(SlotPair {
-        addr: placed(load_map, rel.site),
-        code: stored_word(load_map, image, rel.site),
-        got: stored_word(load_map, image, rel.site + 4),
-    })
+    guest.whole();
+    u32::from_le_bytes([
+        guest.peek(addr),
+        guest.peek(addr + 1),
+        guest.peek(addr + 2),
+        guest.peek(addr + 3),
+    ])
+}
+
+/// The slot at an address.
+fn pair_at(guest: &Guest, addr: u32) -> SlotPair
+    requires { addr + 8 ≤ length guest.now.bytes }
+    ensures { (s : SlotPair) → s.addr ≡ addr → IsFilled guest.now s → result ≡ s }
+{
+    guest.whole();
+    SlotPair {
+        addr,
+        code: word_at(guest, addr),
+        got: word_at(guest, addr + 4),
+    }
+}
+
+/// Slot `k` of module `m`, by its words in memory.
+pub(crate) fn slot_pair(
+    process: &Process,
+    maps: &[LoadMap],
+    guest: &Guest,
+    m: u32,
+    k: u32,
+) -> Option<SlotPair>
+    requires maps { All (All EndsBelow) maps.now }
+    requires filled { HasSlots process.now maps.now guest.now }
+    ensures { result ≡ slot_pair_of process.now maps.now m k }
+{
+    let object = object_at(process, m)?;
+    let slot = object.jmprels.as_slice().get(k as usize)?;
+    let addr = placed(map_of(maps, m), slot.site);
+    Some(pair_at(guest, addr))
 }

@@ -1,256 +1,302 @@
-//! Loads of small objects over stores in memory.
+//! What stands in memory after loads. Objects have their text at link address 0 (0x400 bytes, none of them in the file)
+//! and their data at 0x10000 (0x100 bytes).
 
-ghost use Rattle.std.specs.Prelude.{◌≡◌, ◌*◌, ◌<◌, length, IfOk};
-ghost use Rattle.mod_load.specs.Loaded.{IsConsistent};
-ghost use Rattle.mod_load.specs.Plan.{Fits};
+ghost use Rattle.std.specs.Prelude.{◌<◌, length, IfOk};
+ghost use Rattle.load_model.specs.Plan.{Fits};
+ghost use Rattle.load_state.specs.Consistent.{IsConsistent};
 
-use crate::{GroupPlan, LoadErr, LoadRefusal, Loader, MemPlan, PlaceLine, Places};
-use fd_base::{MemStore, Name, NameErr, Seq, word_at};
-use std::alloc::{AllocError, Global};
+use crate::{LoadErr, LoadRefusal, Loader, MemPlan, PlaceLine, Places};
+use fd_base::{MemStore, Name, Seq};
+use std::alloc::Global;
+use std::process::Abort;
 use std::test::Fail;
 
-/// A shared object: text at 0 of 0x400 bytes, data at 0x10000 of 0x100 bytes with the GOT at its start, and one slot
-/// at 0x1000c on symbol 0, whose file word is 0x300.
-const OBJECT: [u32; 54] = [
-    0x464c457f, 0x41010101, 0, 0, 0x00280003, 1, 0, 52, //
-    0, 0x05000000, 0x00200034, 0x00280003, 0, //
-    1, 0, 0, 0, 0, 0x400, 5, 16, //
-    1, 148, 0x10000, 0, 68, 0x100, 6, 16, //
-    2, 176, 0x1001c, 0, 40, 40, 4, 4, //
-    0, 0, 0, //
-    0x300, 0, //
-    0x1000c, 164, //
-    3, 0x10000, 23, 0x10014, 2, 8, 20, 17, 0, 0,
-];
-
-fn object(alloc: Global) -> Result<Vec<u8>, AllocError> {
-    let mut bytes = Vec::new(alloc);
-    for word in &OBJECT {
-        bytes.extend_from_slice(&word.to_le_bytes())?;
-    }
-    Ok(bytes)
+/// Little-endian bytes, put one after the other.
+#[derive(Drop)]
+struct Image {
+    bytes: Vec<u8>,
 }
 
-/// The same with a data segment that is executable too.
-fn writable_text(alloc: Global) -> Result<Vec<u8>, AllocError> {
-    let mut bytes = Vec::new(alloc);
-    for (i, word) in OBJECT.iter().enumerate() {
-        let word = if i == 27 { 7 } else { *word };
-        bytes.extend_from_slice(&word.to_le_bytes())?;
+impl Image {
+    fn words(&mut self, words: &[u32]) -> Result<(), Fail> {
+        for word in words {
+            self.bytes.extend_from_slice(&word.to_le_bytes())?;
+        }
+        Ok(())
     }
-    Ok(bytes)
+
+    fn halves(&mut self, halves: &[u16]) -> Result<(), Fail> {
+        for half in halves {
+            self.bytes.extend_from_slice(&half.to_le_bytes())?;
+        }
+        Ok(())
+    }
+
+    /// The ELF header with three program headers, and so many section headers at an offset.
+    fn header(&mut self, sections: u16, at: u32) -> Result<(), Fail> {
+        self.bytes
+            .extend_from_slice(b"\x7fELF\x01\x01\x01\x41\0\0\0\0\0\0\0\0")?;
+        self.halves(&[3, 40])?;
+        self.words(&[1, 0, 52, at, 0x0500_0000])?;
+        self.halves(&[52, 32, 3, 40, sections, if sections == 0 { 0 } else { 2 }])
+    }
+
+    /// The text, the data with so many bytes in the file, and at their end the dynamic section.
+    fn segments(&mut self, size: u32, dynamic: u32) -> Result<(), Fail>
+        requires size { size < 4096 }
+        requires dynamic { dynamic < size }
+    {
+        let end = size - dynamic;
+        self.words(&[1, 148, 0, 0, 0, 0x400, 5, 16])?;
+        self.words(&[1, 148, 0x1_0000, 0x1_0000, size, 0x100, 6, 16])?;
+        self.words(&[
+            2,
+            148 + end,
+            0x1_0000 + end,
+            0x1_0000 + end,
+            dynamic,
+            dynamic,
+            4,
+            4,
+        ])
+    }
+
+    /// The list of fixups, the names of sections, and the headers of both, of which the list's begins at an offset.
+    fn fixups(&mut self, fixups: &[u32], at: u32) -> Result<(), Fail>
+        requires few { length fixups.now < 64 }
+        requires at { at < 4096 }
+    {
+        let size = 4 * fixups.len() as u32;
+        self.words(fixups)?;
+        self.bytes.extend_from_slice(b"\0.rofixup\0.shstrtab\0")?;
+        self.words(&[0; 10])?;
+        self.words(&[1, 1, 2, 0, at, size, 0, 0, 4, 0])?;
+        self.words(&[10, 3, 0, 0, at + size, 20, 0, 0, 1, 0])
+    }
 }
 
-fn add(alloc: Global, store: &mut MemStore, file: &str, bytes: &[u8]) -> Result<(), Fail> {
-    let name = name(alloc, file)?;
+/// The bytes of an object: these words from 0x1000c on, behind them the dynamic section, and a list of fixups.
+fn object(alloc: Global, words: &[u32], dynamic: &[u32], fixups: &[u32]) -> Result<Vec<u8>, Fail>
+    requires words { length words.now < 64 }
+    requires dynamic { length dynamic.now < 64 }
+    requires fixups { length fixups.now < 64 }
+{
+    let tail = 4 * dynamic.len() as u32;
+    let size = 12 + 4 * words.len() as u32 + tail;
+    let list = 148 + size;
+    let mut image = Image {
+        bytes: Vec::new(alloc),
+    };
+    if fixups.is_empty() {
+        image.header(0, 0)?;
+    } else {
+        image.header(3, list + 4 * fixups.len() as u32 + 20)?;
+    }
+    image.segments(size, tail)?;
+    image.words(&[0, 0, 0])?;
+    image.words(words)?;
+    image.words(dynamic)?;
+    if !fixups.is_empty() {
+        image.fixups(fixups, list)?;
+    }
+    Ok(image.bytes)
+}
+
+fn add(store: &mut MemStore, alloc: Global, name: &[u8], bytes: &[u8]) -> Result<(), Fail> {
+    let name = Name::new(alloc, name)?;
     store.add(&name, bytes)?;
     Ok(())
 }
 
-fn name(alloc: Global, text: &str) -> Result<Name, NameErr> {
-    Name::new(alloc, text.as_bytes())
+/// Objects by what loading fills in them.
+fn folder(alloc: Global) -> Result<MemStore, Fail> {
+    let mut store = MemStore::new(alloc);
+    let relative = [0, 0, 0, 0, 0, 0x400, 0x1_0020, 23];
+    let dynamic = [3, 0x1_0000, 17, 0x1_0024, 18, 8, 19, 8, 0, 0];
+    add(
+        &mut store,
+        alloc,
+        b"relative",
+        &object(alloc, &relative, &dynamic, &[])?,
+    )?;
+    let list = [0x1_0010, 0x1_0014, 0x1_0000];
+    let fixed = object(alloc, &[0, 0x8, 0x1_0010], &[21, 0, 0, 0], &list)?;
+    add(&mut store, alloc, b"fixups", &fixed)?;
+    let lost = object(alloc, &[0, 0x8, 0x5_0000], &[21, 0, 0, 0], &list)?;
+    add(&mut store, alloc, b"lost", &lost)?;
+    add(&mut store, alloc, b"asks", &asking(alloc)?)?;
+    add(&mut store, alloc, b"l.so", &exporting(alloc)?)?;
+    Ok(store)
 }
 
-/// 8 MiB with 64 descriptors and stacks of 1,024 bytes.
-fn plan(places: Places) -> MemPlan
+/// A program that needs `l.so`, with the address of the descriptor of `foo` at 0x1000c.
+fn asking(alloc: Global) -> Result<Vec<u8>, Fail> {
+    let words = [
+        0,
+        0x1_000c,
+        0x1a3, // the word and its relocation
+        1,
+        2,
+        1,
+        0,
+        0, // the hash table
+        0,
+        0,
+        0,
+        0,
+        1,
+        0,
+        0,
+        0x12, // the symbols
+        0x6f6f_6600,
+        0x732e_6c00,
+        0x6f, // the strings
+    ];
+    let dynamic = [
+        1, 5, 3, 0x1_0000, 17, 0x1_0010, 18, 8, 19, 8, // the library, the GOT and the relocation
+        4, 0x1_0018, 6, 0x1_002c, 5, 0x1_004c, 10, 12, 0, 0, // symbols and strings
+    ];
+    object(alloc, &words, &dynamic, &[])
+}
+
+/// A library with `foo` and `bar` at 0x300, and the address of the descriptor of `bar` at 0x1000c.
+fn exporting(alloc: Global) -> Result<Vec<u8>, Fail> {
+    let words = [
+        0,
+        0x1_000c,
+        0x2a3, // the word and its relocation
+        1,
+        3,
+        1,
+        0,
+        2,
+        0, // the hash table
+        0,
+        0,
+        0,
+        0,
+        1,
+        0x300,
+        0,
+        0x1_0012,
+        5,
+        0x300,
+        0,
+        0x1_0012, // the symbols
+        0x6f6f_6600,
+        0x7261_6200,
+        0, // the strings
+    ];
+    let dynamic = [
+        3, 0x1_0000, 17, 0x1_0010, 18, 8, 19, 8, // the GOT and the relocation
+        4, 0x1_0018, 6, 0x1_0030, 5, 0x1_0060, 10, 12, 0, 0, // symbols and strings
+    ];
+    object(alloc, &words, &dynamic, &[])
+}
+
+fn place(alloc: Global, places: &mut Places, name: &[u8], addrs: &[u32]) -> Result<(), Fail> {
+    places.push(PlaceLine {
+        name: Name::new(alloc, name)?,
+        addrs: Seq::from_slice(alloc, addrs)?,
+    })?;
+    Ok(())
+}
+
+fn plan_with(places: Places) -> MemPlan
     ensures { Fits result }
 {
     MemPlan {
-        memory: 8_388_608,
+        memory: 0x10_0000,
         descriptors: 64,
         stack: 1024,
         places,
     }
 }
 
-fn load(loader: &mut Loader, store: &mut MemStore, name: &Name) -> Result<u32, LoadErr>
-    requires { IsConsistent loader.old.loaded }
-    ensures { IsConsistent loader.new.loaded }
-{
-    let plan = loader.plan_group(store, name, false, false)?;
-    Ok(loader.commit(plan))
-}
-
-/// What a load comes to: its first slot, or why it is refused.
-#[derive(Clone, Copy, Debug, PartialEq, Eq)]
-enum Came {
-    Pair(u32, u32, u32),
-    NoSlot,
-    NoRoom(u32),
-    NoFile,
-    TooLong,
-    Elf(u32),
-    NotBuilt,
-    TooManyModules,
-    Fault,
-    Memory,
-}
-
-fn came_to(error: LoadErr) -> Came {
-    match error {
-        LoadErr::Refused(LoadRefusal::NoRoom(i)) => Came::NoRoom(i),
-        LoadErr::Refused(LoadRefusal::NoFile(_)) => Came::NoFile,
-        LoadErr::Refused(LoadRefusal::TooLong(_)) => Came::TooLong,
-        LoadErr::Refused(LoadRefusal::Elf(_, refusal)) => Came::Elf(refusal.at),
-        LoadErr::Refused(LoadRefusal::NotBuilt(_)) => Came::NotBuilt,
-        LoadErr::Refused(LoadRefusal::TooManyModules) => Came::TooManyModules,
-        LoadErr::StoreFault => Came::Fault,
-        LoadErr::Memory => Came::Memory,
-    }
-}
-
-fn line(alloc: Global, file: &str, addrs: &[u32]) -> Result<PlaceLine, Fail> {
-    Ok(PlaceLine {
-        name: name(alloc, file)?,
-        addrs: Seq::from_slice(alloc, addrs)?,
-    })
-}
-
-/// A line of `e.so` with these addresses, behind one of another name and before one that doesn't count.
-fn places(alloc: Global, addrs: &[u32]) -> Result<Places, Fail> {
+/// Where these programs and the library lie.
+fn places(alloc: Global, data: u32) -> Result<Places, Fail> {
     let mut places = Seq::new(alloc);
-    places.push(line(alloc, "other.so", &[0x100, 0x200])?)?;
-    places.push(line(alloc, "e.so", addrs)?)?;
-    places.push(line(alloc, "e.so", &[0x40000, 0x90000])?)?;
+    place(alloc, &mut places, b"relative", &[0x2_0000, data])?;
+    place(alloc, &mut places, b"fixups", &[0x2_0000, data])?;
+    place(alloc, &mut places, b"asks", &[0x2_0000, data])?;
+    place(alloc, &mut places, b"l.so", &[0x4_0000, 0x5_0000])?;
     Ok(places)
 }
 
-fn first_load(
-    alloc: Global,
-    addrs: &[u32],
-    store: &mut MemStore,
-    file: &str,
-) -> Result<Came, Fail> {
-    let plan = plan(places(alloc, addrs)?);
+/// The program of this name, loaded with its data at an address.
+fn load(alloc: Global, program: &[u8], data: u32) -> Result<Loader, Fail>
+    ensures { IfOk result (λ l. IsConsistent l.loaded) }
+{
+    let plan = plan_with(places(alloc, data)?);
     let mut loader = Loader::new(alloc, &plan)?;
-    match load(&mut loader, store, &name(alloc, file)?) {
-        Err(error) => Ok(came_to(error)),
-        Ok(m) => match loader.slot_pair(m, 0) {
-            Some(pair) => Ok(Came::Pair(pair.addr, pair.code, pair.got)),
-            None => Ok(Came::NoSlot),
-        },
-    }
-}
-
-#[test]
-fn first_loads(rt: HostRuntime) -> Result<(), Fail> {
-    let alloc = rt.alloc();
-    let mut store = MemStore::new(alloc);
-    let bytes = object(alloc)?;
-    add(alloc, &mut store, "e.so", &bytes)?;
-    add(alloc, &mut store, "short", &[0; 51])?;
-    add(alloc, &mut store, "rwx.so", &writable_text(alloc)?)?;
-    let long = vec![in alloc; 0; 4_194_305]?;
-    add(alloc, &mut store, "long", &long)?;
-    store.fail_at(13)?;
-    let rows: [(&str, &[u32], Came); 13] = [
-        (
-            "e.so",
-            &[0x20000, 0x80000],
-            Came::Pair(0x8000c, 0x20300, 0x80000),
-        ),
-        ("e.so", &[0x20000, 0x20008], Came::NoRoom(1)),
-        ("e.so", &[0x20000, 0x203f0], Came::NoRoom(1)),
-        ("e.so", &[0x31f0, 0x80000], Came::NoRoom(0)),
-        ("e.so", &[0x20000, 0x7fdf10], Came::NoRoom(1)),
-        (
-            "e.so",
-            &[0x20000, 0x7fdf00, 0],
-            Came::Pair(0x7fdf0c, 0x20300, 0x7fdf00),
-        ),
-        ("e.so", &[], Came::Pair(0x360c, 0x3500, 0x3600)),
-        ("e.so", &[0x20000], Came::Pair(0x320c, 0x20300, 0x3200)),
-        ("none", &[], Came::NoFile),
-        ("short", &[], Came::Elf(51)),
-        ("rwx.so", &[], Came::NotBuilt),
-        ("long", &[], Came::TooLong),
-        ("e.so", &[], Came::Fault),
-    ];
-    for (file, addrs, want) in rows {
-        let got = first_load(alloc, addrs, &mut store, file)?;
-        assert_eq!(rt; got, want, "{file}");
-    }
-    Ok(())
-}
-
-/// The three words at the GOT of the module that is added.
-fn header(plan: &GroupPlan) -> Option<(u32, u32, u32)> {
-    let added = plan.added.as_ref()?;
-    let data = added.module.image.as_slice().get(1)?.as_slice();
-    Some((word_at(data, 0)?, word_at(data, 4)?, word_at(data, 8)?))
-}
-
-fn numbered(alloc: Global, n: u32) -> Result<Name, NameErr>
-    requires { n < 100 }
-{
-    Name::new(alloc, &[b'm', b'0' + (n / 10) as u8, b'0' + (n % 10) as u8])
-}
-
-/// Loads module `i`, and compares its number and the header of its GOT.
-fn load_numbered(
-    alloc: Global,
-    loader: &mut Loader,
-    store: &mut MemStore,
-    i: u32,
-) -> Result<(), Fail>
-    requires consistent { IsConsistent loader.old.loaded }
-    requires few { i < 100 }
-    ensures { IsConsistent loader.new.loaded }
-{
-    let name = numbered(alloc, i)?;
-    let bytes = object(alloc)?;
-    store.add(&name, &bytes)?;
-    match loader.plan_group(store, &name, true, true) {
-        Err(_) => Err("refused")?,
-        Ok(plan) => {
-            let filled = header(&plan) == Some((0x1000, i, 0x1400 + 112 * i));
-            if loader.commit(plan) != i || !filled {
-                Err("another number or header")?;
-            }
-            Ok(())
+    let name = Name::new(alloc, program)?;
+    match loader.plan_group(&mut folder(alloc)?, &name, false, false) {
+        Ok(group) => {
+            let _ = loader.commit(group);
+            Ok(loader)
         }
+        Err(_) => Err("refused")?,
     }
 }
 
-fn load_all(alloc: Global, loader: &mut Loader, store: &mut MemStore, n: u32) -> Result<(), Fail>
-    requires consistent { IsConsistent loader.old.loaded }
-    requires few { n < 100 }
-    ensures { IsConsistent loader.new.loaded }
-{
-    for i in 0..n {
-        load_numbered(alloc, loader, store, i)?;
+/// A program, where its data lies, and words in memory.
+#[derive(Clone, Copy)]
+struct Case {
+    program: &'static [u8],
+    data: u32,
+    words: [(u32, u32); 3],
+}
+
+#[test]
+fn words_in_memory(rt: HostRuntime) -> Result<(), Fail> {
+    for case in [
+        // the end of the text is placed where the text is; the header of the GOT
+        Case {
+            program: b"relative",
+            data: 0x8_0000,
+            words: [(0x8_0020, 0x2_0400), (0x8_0000, 0x1000), (0x8_0008, 0x1400)],
+        },
+        // words that a list of fixups names, each by the segment that holds what it says
+        Case {
+            program: b"fixups",
+            data: 0x3_0000,
+            words: [(0x3_0010, 0x2_0008), (0x3_0014, 0x3_0010), (0x3_0004, 0)],
+        },
+        // one descriptor for one function, whatever its name
+        Case {
+            program: b"asks",
+            data: 0x8_0000,
+            words: [(0x8_000c, 0x3000), (0x5_000c, 0x3000), (0x3000, 0x4_0300)],
+        },
+    ] {
+        let mut loader = load(rt.alloc(), case.program, case.data)?;
+        assert_eq!(rt; loader.got(0), Some(case.data));
+        for (addr, word) in case.words {
+            assert_eq!(rt;
+                loader.guest().read32(addr),
+                Ok(word),
+                "the word at {addr:#x}"
+            );
+        }
+        assert_eq!(rt; loader.module_at(0x2_03ff), Some(0));
+        assert_eq!(rt; loader.module_at(0x2_0400), None);
     }
     Ok(())
 }
 
 #[test]
-fn many_loads(rt: HostRuntime) -> Result<(), Fail> {
+fn word_without_address(rt: HostRuntime) -> Result<(), Fail> {
     let alloc = rt.alloc();
-    let mut store = MemStore::new(alloc);
-    let plan = plan(Seq::new(alloc));
-    assert_eq!(rt; (plan.low(), plan.high()), (0x3200, 0x7fe000));
+    let plan = plan_with(Seq::new(alloc));
     let mut loader = Loader::new(alloc, &plan)?;
-    load_all(alloc, &mut loader, &mut store, 64)?;
-    match load(&mut loader, &mut store, &numbered(alloc, 64)?) {
-        Ok(_) => Err("a module too many")?,
-        Err(error) => assert_eq!(rt; came_to(error), Came::TooManyModules),
+    let name = Name::new(alloc, b"lost")?;
+    match loader.plan_group(&mut folder(alloc)?, &name, false, false) {
+        Err(LoadErr::Refused(LoadRefusal::BadAddress(m, site))) => {
+            assert_eq!(rt; (m, site), (0, 0x1_0014));
+        }
+        _ => Err("not refused")?,
     }
-    match load(&mut loader, &mut store, &numbered(alloc, 7)?) {
-        Ok(m) => assert_eq!(rt; m, 7),
-        Err(_) => Err("refused")?,
-    }
-    // each module takes 0x500 bytes from 0x3200 on
-    for m in [0, 7, 63] {
-        let pair = loader.slot_pair(m, 0).ok_or("no slot")?;
-        let text = 0x3200 + 0x500 * m;
-        assert_eq!(rt;
-            (pair.addr, pair.code, pair.got),
-            (text + 0x40c, text + 0x300, text + 0x400)
-        );
-    }
-    assert!(rt; loader.slot_pair(0, 1).is_none() && loader.slot_pair(64, 0).is_none());
-    let name = loader.module_name(63).ok_or("no module")?;
-    assert_eq!(rt; name.as_slice(), b"m63".as_slice());
-    assert!(rt; loader.module_name(64).is_none());
+    assert_eq!(rt; loader.live(0), false);
+    assert_eq!(rt; loader.module_at(0x2_0000), None);
     Ok(())
 }

@@ -1,7 +1,0 @@
-use Rattle.std.proofs.Common.{◌≡◌, drop, ◌++◌}
-use Rattle.mod_load.specs.Items.{items_of}
-use Rattle.mod_load.proofs.items.listed_items.Given as goal
-
--- the items of the segments that are left are still to come
-abbrev pub invariant-loop-i : goal.invariant-loop-i
-invariant-loop-i l = l.items ++ items_of l.owner (drop l.i l.segments) (drop l.i l.listed) ≡ items_of l.owner l.segments l.listed

@@ -1,7 +1,0 @@
-use Rattle.std.proofs.Common.{◌≡◌, drop, ◌++◌}
-use Rattle.mod_load.specs.Items.{load_map_of}
-use Rattle.mod_load.proofs.items.load_map.Given as goal
-
--- the entries of the segments that are left are still to come
-abbrev pub invariant-loop-i : goal.invariant-loop-i
-invariant-loop-i l = l.load_map ++ load_map_of (drop l.i l.segments) (drop l.i l.addrs) ≡ load_map_of l.segments l.addrs

@@ -1,0 +1,132 @@
+//! What is asked of a loader.
+
+ghost use Rattle.std.specs.Prelude.{◌≡◌, find, All};
+ghost use Rattle.load_image.specs.Bounds.{EndsBelow};
+ghost use Rattle.std.specs.Borrow.{sem};
+ghost use Rattle.std.specs.List.{list_any, range_with_len};
+ghost use Rattle.load_model.specs.Layout.{is_in};
+ghost use Rattle.mod_load.specs.Accessors as spec;
+
+use crate::loader::Loader;
+use crate::slots::map_of;
+use elf_model::Inits;
+use fd_base::MapEntry;
+use guest_mem::Guest;
+use load_image::{LoadMap, placed};
+use load_model::{MAX_MODULES, Process};
+use load_process::{is_live, object_at};
+
+impl Loader {
+    ghost use Rattle.std.specs.Prelude.{◌≡◌};
+    ghost use Rattle.load_model.specs.Process.{is_live};
+    ghost use Rattle.load_state.specs.Consistent.{IsConsistent};
+    ghost use Rattle.mod_load.specs.Accessors.{module_at, got_at, is_skipped};
+    ghost use Rattle.mod_load.specs.Lending.{LendsGuest};
+
+    /// The memory of the process, for its program to run in. What is written there is all that changes.
+    pub fn guest(&mut self) -> &mut Guest
+        ensures* writes_back { sem 𝓛 (LendsGuest self.entry result) }
+        ensures value { result.now ≡ self.old.loaded.memory }
+    {
+        &mut self.guest
+    }
+
+    /// The live modules, without addresses.
+    pub fn process(&self) -> &Process
+        ensures { result.now ≡ self.now.loaded.process }
+    {
+        &self.process
+    }
+
+    /// The load map of each module, by number.
+    pub fn maps(&self) -> &[LoadMap]
+        ensures { result.now ≡ self.now.loaded.maps }
+    {
+        self.maps.as_slice()
+    }
+
+    /// Whether a module of this number is live.
+    pub fn live(&self, m: u32) -> bool
+        ensures { result ≡ is_live self.now.loaded.process m }
+    {
+        is_live(&self.process, m)
+    }
+
+    /// The placed address of the GOT of a live module.
+    pub fn got(&self, m: u32) -> Option<u32>
+        requires { IsConsistent self.now.loaded }
+        ensures { result ≡ got_at self.now.loaded.process self.now.loaded.maps m }
+    {
+        self.guest.whole();
+        got_at(&self.process, self.maps.as_slice(), m)
+    }
+
+    /// The number of the module that has a placed segment at this address.
+    pub fn module_at(&self, addr: u32) -> Option<u32>
+        ensures { result ≡ module_at self.now.loaded.maps addr }
+    {
+        first_at(self.maps.as_slice(), addr, MAX_MODULES)
+    }
+
+    /// Whether a live module has functions that should be called before its program, or after it. They are not called.
+    pub fn skipped(&self, m: u32) -> bool
+        ensures { result ≡ is_skipped self.now.loaded.process m }
+    {
+        match object_at(&self.process, m) {
+            Some(object) => has_inits(&object.inits),
+            None => false,
+        }
+    }
+}
+
+fn got_at(process: &Process, maps: &[LoadMap], m: u32) -> Option<u32>
+    requires { All (All EndsBelow) maps.now }
+    ensures { result ≡ spec.got_at process.now maps.now m }
+{
+    let object = object_at(process, m)?;
+    Some(placed(map_of(maps, m), object.got))
+}
+
+fn holds_address(entry: &MapEntry, addr: u32) -> bool
+    ensures { result ≡ is_in entry.now.addr entry.now.memsz addr }
+{
+    entry.addr <= addr && u64::from(addr) < u64::from(entry.addr) + u64::from(entry.memsz)
+}
+
+fn holds(load_map: &[MapEntry], addr: u32) -> bool
+    ensures { result ≡ list_any (λ e. is_in e.addr e.memsz addr) load_map.now }
+{
+    for entry in load_map {
+        if holds_address(entry, addr) {
+            return true;
+        }
+    }
+    false
+}
+
+fn lies_in(maps: &[LoadMap], addr: u32, m: u32) -> bool
+    ensures { result ≡ spec.lies_in maps.now addr m }
+{
+    holds(map_of(maps, m), addr)
+}
+
+/// The first module of a number below `count` that lies at an address.
+fn first_at(maps: &[LoadMap], addr: u32, count: u32) -> Option<u32>
+    ensures { result ≡ find (spec.lies_in maps.now addr) (range_with_len 0 count) }
+{
+    for m in 0..count {
+        if lies_in(maps, addr, m) {
+            return Some(m);
+        }
+    }
+    None
+}
+
+fn has_inits(inits: &Inits) -> bool
+    ensures { result ≡ spec.has_inits inits.now }
+{
+    inits.init.is_some()
+        || inits.fini.is_some()
+        || inits.init_array.is_some()
+        || inits.fini_array.is_some()
+}
