@@ -1,12 +1,20 @@
 -- Two outcomes of one command have one status and one text.
-use Rattle.std.proofs.Common.{◌≡◌, ℕ, List, length, Option, Some, None, Bool, true, false, nat_lt, MatchBool, sym, ap, ◌∙◌, inl, inr, ◌⊎◌}
+use Rattle.std.proofs.Common.{◌≡◌, ℕ, List, length, Option, Some, None, true, false, nat_lt, MatchBool, sym, ap, ◌∙◌, inl, inr, ◌⊎◌, subst}
 use Rattle.fd_base.specs.Fetched.{Files}
-use Rattle.mod_load.proofs.Determined.{loads_are_determined}
+use Rattle.load_model.specs.declared.error.LoadRefusal.{LoadRefusal}
+use Rattle.load_model.specs.declared.plan.MemPlan.{MemPlan}
+use Rattle.load_laws.proofs.Determined.{loads_determined}
+use Rattle.proc_run.specs.declared.job.Job.{Job}
+use Rattle.job_text.proofs.Unique as unique
 use Rattle.fdpic_cmd.specs.declared.command.Command.{Command}
-use Rattle.fdpic_cmd.specs.declared.command.Command.TheVariants.{Bind, Code, Show}
+use Rattle.fdpic_cmd.specs.declared.command.Command.TheVariants.{Bind, BindJob, Code, Show}
 use Rattle.fdpic_cmd.specs.Outcome.{Outcome, writes, refuses}
-use Rattle.fdpic_cmd.specs.Bind.{BindMeans, IsBound, IsUnbound, plan_of, refusal_of, slot_listing}
-use Rattle.fdpic_cmd.specs.declared.status.Refusal.TheVariants.{TooLong}
+use Rattle.fdpic_cmd.specs.Bind.{plan_of, refusal_of}
+use Rattle.fdpic_cmd.specs.Jobs.{OnJob, OnNoJob, BindJobMeans}
+use Rattle.fdpic_cmd.specs.Program.{ProgramMeans}
+use Rattle.fdpic_cmd.specs.Slots.{slot_listing}
+use Rattle.fdpic_cmd.specs.declared.status.Refusal.{Refusal}
+use Rattle.fdpic_cmd.specs.declared.status.Refusal.TheVariants.{TooLong, Job as NoJob, Load}
 use Rattle.elf_model.specs.declared.object.Object.{Object}
 use Rattle.std.specs.FinMap.{get}
 use Rattle.fdpic_cmd.specs.Files.{OnFound}
@@ -24,19 +32,21 @@ pub agree_same : (a b c : Outcome) → a ≡ c → b ≡ c → Agree a b
 agree_same a b c p q = record { status = ap (λ o. o.status) (p ∙ sym q); text = ap (λ o. o.text) (p ∙ sym q) }
 
 -- a load comes to one process, or to one refusal
-bind_agrees : (file : List ℕ) (text data' : ℕ) (told : Files) (a b : Outcome) → BindMeans file text data' told a → BindMeans file text data' told b → Agree a b
-bind_agrees file text data' told a b (inl p) (inl q) =
-    let same = loads_are_determined.same_load (plan_of file text data') told file p.loaded q.loaded p.loads q.loads in
-    agree_same a b (writes (slot_listing q.loaded.modules)) (p.lists ∙ ap (λ l. writes (slot_listing l.modules)) same) q.lists
-bind_agrees file text data' told a b (inl p) (inr q) =
-    absurd (loads_are_determined.exclusive (plan_of file text data') told file p.loaded q.refusal p.loads q.refused)
-bind_agrees file text data' told a b (inr p) (inl q) =
-    absurd (loads_are_determined.exclusive (plan_of file text data') told file q.loaded p.refusal q.loads p.refused)
-bind_agrees file text data' told a b (inr p) (inr q) =
-    let same = loads_are_determined.same_refusal (plan_of file text data') told file p.refusal q.refusal p.refused q.refused in
-    agree_same a b (refuses (refusal_of q.refusal)) (p.says ∙ ap (λ r. refuses (refusal_of r)) same) q.says
+program_agrees : (plan : MemPlan) (name : List ℕ) (said : LoadRefusal → Refusal) (told : Files) (a b : Outcome) → ProgramMeans plan name said told a
+    → ProgramMeans plan name said told b → Agree a b
+program_agrees plan name said told a b (inl p) (inl q) =
+    let process = loads_determined.same_process plan told name p.process q.process p.maps q.maps p.loads q.loads in
+    let maps = loads_determined.same_maps plan told name p.process q.process p.maps q.maps p.loads q.loads in
+    agree_same a b (writes (slot_listing q.process q.maps))
+    (p.lists ∙ ap (λ x. writes (slot_listing x p.maps)) process ∙ ap (λ x. writes (slot_listing q.process x)) maps) q.lists
+program_agrees plan name said told a b (inl p) (inr q) = absurd (loads_determined.exclusive plan told name p.process p.maps q.refusal p.loads q.refused)
+program_agrees plan name said told a b (inr p) (inl q) = absurd (loads_determined.exclusive plan told name q.process q.maps p.refusal q.loads p.refused)
+program_agrees plan name said told a b (inr p) (inr q) =
+    let same = loads_determined.same_refusal plan told name p.refusal q.refusal p.refused q.refused in
+    agree_same a b (refuses (said q.refusal)) (p.says ∙ ap (λ r. refuses (said r)) same) q.says
 
-agree_found : (name : List ℕ) (means : List ℕ → Outcome → Type 0) → ((bytes : List ℕ) (a b : Outcome) → means bytes a → means bytes b → Agree a b) → (f : Option (List ℕ)) (a b : Outcome) → OnFound name means f a → OnFound name means f b → Agree a b
+agree_found : (name : List ℕ) (means : List ℕ → Outcome → Type 0) → ((bytes : List ℕ) (a b : Outcome) → means bytes a → means bytes b → Agree a b)
+    → (f : Option (List ℕ)) (a b : Outcome) → OnFound name means f a → OnFound name means f b → Agree a b
 agree_found name means agree None a b p q = agree_same a b _ p q
 agree_found name means agree (Some bytes) a b p q =
     elim (nat_lt 4194304 (length bytes)) as (λ c. MatchBool c (a ≡ refuses (TooLong name)) (means bytes a) → MatchBool c (b ≡ refuses (TooLong name)) (means bytes b) → Agree a b) [
@@ -45,11 +55,29 @@ agree_found name means agree (Some bytes) a b p q =
     ] p q
 
 -- a file has one listing, or one refusal
-list_agrees : (listing : Object → List ℕ) (file : List ℕ) (told : Files) (a b : Outcome) → ListMeans listing file told a → ListMeans listing file told b → Agree a b
+list_agrees : (listing : Object → List ℕ) (file : List ℕ) (told : Files) (a b : Outcome) → ListMeans listing file told a
+    → ListMeans listing file told b → Agree a b
 list_agrees listing file told a b p q =
     agree_found file (λ bytes o. o ≡ listed listing file bytes) (λ bytes a b p q. agree_same a b (listed listing file bytes) p q) (get told file) a b p q
 
+-- a text is one job, or is refused in one way
+text_agrees : (means : Job → Outcome → Type 0) → ((job : Job) (a b : Outcome) → means job a → means job b → Agree a b) → (bytes : List ℕ) (a b : Outcome)
+    → OnJob means bytes a ⊎ OnNoJob bytes a → OnJob means bytes b ⊎ OnNoJob bytes b → Agree a b
+text_agrees means agree bytes a b (inl p) (inl q) = agree q.job a b (subst (λ job. means job a) (unique.same bytes p.job q.job p.is q.is) p.meant) q.meant
+text_agrees means agree bytes a b (inl p) (inr q) = absurd (unique.exclusive bytes p.job q.refusal p.is q.refused)
+text_agrees means agree bytes a b (inr p) (inl q) = absurd (unique.exclusive bytes q.job p.refusal q.is p.refused)
+text_agrees means agree bytes a b (inr p) (inr q) =
+    agree_same a b (refuses (NoJob q.refusal.line q.refusal.kind))
+    (p.says ∙ ap (λ r. refuses (NoJob r.line r.kind)) (unique.first bytes p.refusal q.refusal p.refused q.refused)) q.says
+
+job_agrees : (file : List ℕ) (told : Files) (a b : Outcome) → BindJobMeans file told a → BindJobMeans file told b → Agree a b
+job_agrees file told a b p q =
+    let means : Job → Outcome → Type 0 = λ job o. ProgramMeans job.plan job.program Load told o in
+    let agree = text_agrees means (λ job a b p q. program_agrees job.plan job.program Load told a b p q) in
+    agree_found file (λ bytes o. OnJob means bytes o ⊎ OnNoJob bytes o) agree (get told file) a b p q
+
 pub agrees : (command : Command) (told : Files) (a b : Outcome) → Means command told a → Means command told b → Agree a b
-agrees (Bind file text data') told a b p q = bind_agrees file text data' told a b p q
+agrees (Bind file text data') told a b p q = program_agrees (plan_of file text data') file (refusal_of file) told a b p q
+agrees (BindJob file) told a b p q = job_agrees file told a b p q
 agrees (Code file) told a b p q = list_agrees code_listing file told a b p q
 agrees (Show file) told a b p q = list_agrees object_listing file told a b p q

@@ -1,14 +1,12 @@
 -- What the public clauses say, from the one clause by cases.
-use Rattle.std.proofs.Common.{◌≡◌, ℕ, List, [], Option, Some, None, refl, sym, subst, inl, inr, IfSome, IsSomeAnd, ◌⊎◌, ◌≢◌, Bool, true, false}
+use Rattle.std.proofs.Common.{◌≡◌, ℕ, List, Option, Some, None, refl, sym, subst, inl, inr, IfSome, ◌≢◌, Bool, true, false}
 use Rattle.fd_base.specs.Fetched.{Files}
-use Rattle.fd_base.specs.Faults.{Rose}
-use Rattle.fd_base.specs.Grown.{Grew, GrewByPart}
-use Rattle.fd_base.proofs.Growing.{grew_nothing, grew_whole, grew_no_part}
+use Rattle.fd_base.proofs.Growing.{grew_whole}
 use Rattle.fdpic_cmd.specs.declared.status.Status.{Status}
 use Rattle.fdpic_cmd.specs.declared.status.Status.TheVariants.{Done, Memory, Words, StoreFault, SinkFault, Refused}
 use Rattle.fdpic_cmd.specs.declared.command.Command.{Command}
-use Rattle.fdpic_cmd.specs.Outcome.{Outcome, refuses}
-use Rattle.fdpic_cmd.specs.Ended.{Kind, own, refusal, lacks, unlisted, store_failed, sink_failed, kind_of, EndsAs, Outside, outside, Ends, CameTo, IsPartly, IsCutOff, IsCutOffUnless, KeepsOthers}
+use Rattle.fdpic_cmd.specs.Outcome.{Outcome}
+use Rattle.fdpic_cmd.specs.Ended.{Kind, own, refusal, lacks, unlisted, store_failed, sink_failed, kind_of, EndsAs, Outside, CameTo, IsPartly, IsCutOff, IsCutOffUnless, KeepsOthers}
 use Rattle.fdpic_cmd.specs.Answers.{Answers, IsStatus, KeepsFiles}
 use Rattle.fdpic_cmd.specs.Meaning.{target}
 use Rattle.fdpic_cmd.specs.Lines.{line, line_of, status_text}

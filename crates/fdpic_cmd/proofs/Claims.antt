@@ -1,10 +1,10 @@
 -- The public clauses of `top`, each from the one clause by cases.
-use Rattle.std.proofs.Common.{◌≡◌, ◌≢◌, ℕ, List, [], Option, Some, None, refl, sym, ap, ◌∙◌, subst, inl, inr, IfSome, IsSome, IsSomeAnd, ◌⊎◌, Bool, true, false}
+use Rattle.std.proofs.Common.{◌≡◌, ℕ, List, Option, Some, None, refl, sym, ap, ◌∙◌, subst, inl, inr, IfSome, IsSome, IsSomeAnd, ◌⊎◌, Bool, true, false}
 use Rattle.std.proofs.lemmas.Bool.{false≢true}
 use Rattle.fd_base.specs.Fetched.{Files}
 use Rattle.fd_base.specs.Faults.{Rose}
-use Rattle.fd_base.specs.Grown.{Grew, GrewByPart}
-use Rattle.fd_base.proofs.Growing.{grew_nothing, grew_whole, grew_no_part}
+use Rattle.fd_base.specs.Grown.{GrewByPart}
+use Rattle.fd_base.proofs.Growing.{grew_whole, grew_no_part}
 use Rattle.fdpic_cmd.specs.declared.status.Status.{Status}
 use Rattle.fdpic_cmd.specs.declared.status.Status.TheVariants.{Done, Memory, Words, StoreFault, SinkFault, Refused}
 use Rattle.fdpic_cmd.specs.declared.status.Refusal.{Refusal}

@@ -5,4 +5,6 @@ pub mod Claims
 pub mod Listed
 pub mod Found
 pub mod Opened
+pub mod Loading
+pub mod Jobbed
 pub mod Coded

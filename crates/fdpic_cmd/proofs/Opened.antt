@@ -1,12 +1,12 @@
 -- The object that a file is, and what is listed of it.
-use Rattle.std.proofs.Common.{◌≡◌, ℕ, List, Option, Some, None, refl, sym, ap, ◌∙◌}
+use Rattle.std.proofs.Common.{◌≡◌, ℕ, List, Some, sym, ap, ◌∙◌}
 use Rattle.fd_base.specs.Fetched.{Files}
 use Rattle.elf_model.specs.declared.object.Object.{Object}
 use Rattle.elf_model.specs.declared.refusal.ElfRefusal.{ElfRefusal}
-use Rattle.elf_model.specs.Object.{refusal_of, object_of, IsObject}
+use Rattle.elf_model.specs.Object.{refusal_of, IsObject}
 use Rattle.fdpic_cmd.specs.declared.status.Refusal.{Refusal}
 use Rattle.fdpic_cmd.specs.declared.status.Refusal.TheVariants.{Elf}
-use Rattle.fdpic_cmd.specs.Outcome.{Outcome, writes, refuses}
+use Rattle.fdpic_cmd.specs.Outcome.{writes, refuses}
 use Rattle.fdpic_cmd.specs.Files.{OnFile, IsFile, Never}
 use Rattle.fdpic_cmd.specs.Show.{listed, listed_unless, ListMeans, IsObjectFile}
 use Rattle.fdpic_cmd.proofs.Found.{found, before}

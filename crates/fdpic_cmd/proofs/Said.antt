@@ -1,15 +1,13 @@
 -- How a command ends, from what its parts answer.
-use Rattle.std.proofs.Common.{◌≡◌, ℕ, List, [], Option, Some, None, Result, Ok, Err, refl, sym, subst, inl, inr, IfSome, Bool, true, false}
-use Rattle.fd_base.specs.Fetched.{Files, with_file}
-use Rattle.fd_base.specs.Faults.{Rose}
+use Rattle.std.proofs.Common.{◌≡◌, ℕ, List, Option, Some, None, Result, Ok, Err, refl, sym, subst, inl, inr, IfSome, Bool, true, false}
+use Rattle.fd_base.specs.Fetched.{Files}
 use Rattle.fd_base.specs.Grown.{Grew, GrewByPart}
-use Rattle.fd_base.proofs.Growing.{grew_nothing, grew_whole}
 use Rattle.fdpic_cmd.specs.declared.status.Status.{Status}
-use Rattle.fdpic_cmd.specs.declared.status.Status.TheVariants.{Done, Memory, Words, StoreFault, SinkFault, Refused}
+use Rattle.fdpic_cmd.specs.declared.status.Status.TheVariants.{Done}
 use Rattle.fdpic_cmd.specs.declared.status.Failure.{Failure}
 use Rattle.fdpic_cmd.specs.declared.status.Failure.TheVariants.{Refused as Refuses, StoreFault as Fails, Memory as Lacks}
-use Rattle.fdpic_cmd.specs.Outcome.{Outcome, writes, refuses}
-use Rattle.fdpic_cmd.specs.Ended.{Kind, own, refusal, lacks, unlisted, store_failed, sink_failed, kind_of, EndsAs, WritesAs, Outside, outside, Ends, IsCutOff, IsCutOffUnless, CameTo, IsPartly, Gives, Says, Writes, failed}
+use Rattle.fdpic_cmd.specs.Outcome.{Outcome, writes}
+use Rattle.fdpic_cmd.specs.Ended.{Kind, own, refusal, lacks, unlisted, store_failed, sink_failed, kind_of, EndsAs, WritesAs, Outside, outside, Ends, IsCutOffUnless, CameTo, IsPartly, Gives, Says, failed}
 
 module _ (at_once : Bool) (means : Files → Outcome → Type 0) where
   came : (files : Option Files) (f g h k : ℕ) (out later : Option (List ℕ)) (text : List ℕ) (status : Status) → IfSome files (λ told. means told (writes text)) → Done ≡ status → Grew out later text → IfSome files (CameTo means (outside files f out h) (outside files g later k) status)

@@ -1,16 +1,15 @@
 -- What the program's answer says.
-use Rattle.std.specs.Prelude.{◌≡◌, ℕ, ◌⊎◌, List, Option, Some, None, IfSome, IsSomeAnd, MatchOption, IsSome, Bool, true, false}
+use Rattle.std.specs.Prelude.{◌≡◌, ℕ, ◌⊎◌, List, Option, Some, None, IsSomeAnd, Bool, true, false}
 use Rattle.fd_base.specs.Fetched.{Files}
 use Rattle.fd_base.specs.Faults.{Rose}
 use Rattle.fd_base.specs.Grown.{Grew, GrewByPart}
 use Rattle.fdpic_cmd.specs.declared.status.Status.{Status}
-use Rattle.fdpic_cmd.specs.declared.status.Status.TheVariants.{Done, Memory, Words, StoreFault, SinkFault, Refused}
-use Rattle.fdpic_cmd.specs.declared.status.Refusal.{Refusal}
+use Rattle.fdpic_cmd.specs.declared.status.Status.TheVariants.{Memory, Words, StoreFault, SinkFault}
 use Rattle.fdpic_cmd.specs.declared.command.Command.{Command}
-use Rattle.fdpic_cmd.specs.Outcome.{Outcome, refuses}
+use Rattle.fdpic_cmd.specs.Outcome.{Outcome}
 use Rattle.fdpic_cmd.specs.Forms.{command_of}
 use Rattle.fdpic_cmd.specs.Meaning.{Means, target, is_at_once}
-use Rattle.fdpic_cmd.specs.Ended.{Kind, own, refusal, lacks, unlisted, store_failed, sink_failed, kind_of, Outside, Ends, CameTo, KeepsOthers}
+use Rattle.fdpic_cmd.specs.Ended.{Kind, own, refusal, lacks, unlisted, store_failed, sink_failed, kind_of, Outside, Ends, KeepsOthers}
 use Rattle.fdpic_cmd.specs.Lines.{line_of}
 
 -- the words have a listed form, and the command means this outcome

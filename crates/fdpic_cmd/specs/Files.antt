@@ -1,5 +1,5 @@
 -- A file that the words name.
-use Rattle.std.specs.Prelude.{◌≡◌, ℕ, ◌≤◌, ◌<◌, List, length, Option, Some, None, Result, Ok, Err, IfSome, MatchBool, nat_lt}
+use Rattle.std.specs.Prelude.{◌≡◌, ℕ, ◌≤◌, List, length, Option, Some, None, Result, Ok, Err, IfSome, MatchBool, nat_lt}
 use Rattle.std.specs.FinMap.{get}
 use Rattle.fd_base.specs.declared.store.TheConstants.{MAX_FILE}
 use Rattle.fd_base.specs.Fetched.{Files}

@@ -4,7 +4,7 @@ use Rattle.std.specs.Str.{bytes_eq}
 use Rattle.fd_base.specs.Name.{name_refusal_of}
 use Rattle.fd_base.specs.Texts.{number_of}
 use Rattle.fdpic_cmd.specs.declared.command.Command.{Command}
-use Rattle.fdpic_cmd.specs.declared.command.Command.TheVariants.{Bind, Code, Show}
+use Rattle.fdpic_cmd.specs.declared.command.Command.TheVariants.{Bind, BindJob, Code, Show}
 
 -- a word as the name of a file, where it is one
 unfoldable pub name_of : List ℕ → Option (List ℕ)
@@ -16,8 +16,9 @@ bind_with (Some file) (Some text) None = None
 bind_with (Some file) None data' = None
 bind_with None text data' = None
 
--- bind F TEXT DATA
+-- bind JOB and bind F TEXT DATA
 abbrev pub bind_of : List (List ℕ) → Option Command
+bind_of (job ∷ []) = option_map BindJob (name_of job)
 bind_of (file ∷ text ∷ data' ∷ []) = bind_with (name_of file) (number_of text) (number_of data')
 bind_of _ = None
 

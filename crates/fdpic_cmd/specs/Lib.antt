@@ -1,8 +1,10 @@
 pub mod Forms
 pub mod Outcome
 pub mod Meaning
+pub mod Slots
+pub mod Program
 pub mod Bind
-pub mod Binding
+pub mod Jobs
 pub mod Ended
 pub mod Answers
 pub mod Lines

@@ -7,9 +7,12 @@ use Rattle.elf_model.specs.declared.refusal.ElfRefusal.{ElfRefusal}
 use Rattle.fdpic_cmd.specs.declared.status.Status.{Status}
 use Rattle.fdpic_cmd.specs.declared.status.Status.TheVariants.{Done, Memory, Words, StoreFault, SinkFault, Refused}
 use Rattle.fdpic_cmd.specs.declared.status.Refusal.{Refusal}
-use Rattle.fdpic_cmd.specs.declared.status.Refusal.TheVariants.{Elf as NoObject, NoFile as NoSuchFile, TooLong as FileTooLong, Load}
-use Rattle.mod_load.specs.declared.error.LoadRefusal.{LoadRefusal}
-use Rattle.mod_load.specs.declared.error.LoadRefusal.TheVariants.{NotBuilt, Elf, NoFile, TooLong, TooManyModules, NoRoom}
+use Rattle.fdpic_cmd.specs.declared.status.Refusal.TheVariants.{Elf as NoObject, NoFile as NoSuchFile, TooLong as FileTooLong, Job, Load}
+use Rattle.load_model.specs.declared.error.LoadRefusal.{LoadRefusal}
+use Rattle.load_model.specs.declared.error.LoadRefusal.TheVariants.{NotBuilt, Elf, NoFile, TooLong, TooManyModules, Unresolved, NotCode, DescriptorsFull, NoRoom, BadAddress}
+use Rattle.job_text.specs.declared.refusal.JobKind.{JobKind}
+use Rattle.job_text.specs.declared.refusal.JobKind.TheVariants.{First, Word, Form, Range, Twice, TooMany as TooManyLines, NoProgram, Small}
+use Rattle.fdpic_cmd.specs.Listing.{word_field, decimal_field, hex_field, name_word}
 
 -- the word of a kind
 abbrev pub kind_word : ElfKind → List ℕ
@@ -47,13 +50,29 @@ load_text (NoFile name) = codes "NoFile " ++ shown name
 load_text (TooLong name) = codes "TooLong " ++ shown name
 load_text (Elf name e) = codes "Elf " ++ shown name ++ codes " " ++ test_text e
 load_text TooManyModules = codes "TooManyModules"
-load_text (NoRoom item) = codes "NoRoom " ++ decimal item
+load_text (Unresolved m name) = codes "Unresolved" ++ decimal_field m ++ word_field (name_word name)
+load_text (NotCode m name) = codes "NotCode" ++ decimal_field m ++ word_field (name_word name)
+load_text (DescriptorsFull n) = codes "DescriptorsFull" ++ decimal_field n
+load_text (NoRoom item) = codes "NoRoom" ++ decimal_field item
+load_text (BadAddress m site) = codes "BadAddress" ++ decimal_field m ++ hex_field site
+
+-- the word of a kind of jobs' refusals
+abbrev pub job_word : JobKind → List ℕ
+job_word First = codes "First"
+job_word Word = codes "Word"
+job_word Form = codes "Form"
+job_word Range = codes "Range"
+job_word Twice = codes "Twice"
+job_word TooManyLines = codes "TooMany"
+job_word NoProgram = codes "NoProgram"
+job_word Small = codes "Small"
 
 -- what is said of a refusal
 unfoldable pub refusal_text : Refusal → List ℕ
 refusal_text (NoObject name e) = shown name ++ codes " elf " ++ test_text e
 refusal_text (NoSuchFile name) = codes "no file " ++ shown name
 refusal_text (FileTooLong name) = codes "too long " ++ shown name
+refusal_text (Job line kind) = codes "job " ++ job_word kind ++ codes " line " ++ decimal line
 refusal_text (Load r) = codes "load " ++ load_text r
 
 -- what is said of a status

@@ -1,5 +1,5 @@
 -- show F: what an object holds, a line for each thing.
-use Rattle.std.specs.Prelude.{◌≡◌, ℕ, suc, Bool, ◌||◌, List, [], ◌∷◌, ◌++◌, length, codes, decimal, Option, Some, None, is_some, unwrap_or, if◌then◌else◌, ◌==◌}
+use Rattle.std.specs.Prelude.{ℕ, suc, Bool, ◌||◌, List, [], ◌∷◌, ◌++◌, length, codes, decimal, Option, Some, None, is_some, unwrap_or, if◌then◌else◌, ◌==◌}
 use Rattle.std.specs.Option.{option_map_or}
 use Rattle.std.specs.List.{flat_map}
 use Rattle.fd_base.specs.Texts.{hex8, shown}

@@ -1,5 +1,5 @@
 -- What a command comes to where nothing outside fails.
-use Rattle.std.specs.Prelude.{◌≡◌, ℕ, List, [], Option, Some, None}
+use Rattle.std.specs.Prelude.{ℕ, List, [], Option, None}
 use Rattle.fdpic_cmd.specs.declared.status.Status.{Status}
 use Rattle.fdpic_cmd.specs.declared.status.Status.TheVariants.{Done, Refused}
 use Rattle.fdpic_cmd.specs.declared.status.Refusal.{Refusal}

@@ -1,6 +1,8 @@
 //! The commands and their words.
 
-ghost use Rattle.std.specs.Prelude.{◌≡◌, IfOk};
+ghost use Rattle.std.specs.Prelude.{◌≡◌, IfOk, option_map};
+ghost use Rattle.fd_base.specs.Texts.{number_of};
+ghost use Rattle.fdpic_cmd.specs.declared.command.Command.TheVariants.{BindJob};
 ghost use Rattle.fdpic_cmd.specs.Forms as forms;
 
 use fd_base::{Bytes, Memory, Name, NameErr, number};
@@ -9,9 +11,11 @@ use std::alloc::{AllocError, Global};
 /// A command with its words.
 #[derive(Debug, Drop)]
 pub enum Command {
-    /// `bind F TEXT DATA`: prints the slots of the object in file F, with its first two segments placed at
-    /// these addresses.
+    /// `bind F TEXT DATA`: loads the program in file F, with its first two segments placed at these addresses,
+    /// and prints the slots of its process.
     Bind { file: Name, text: u32, data: u32 },
+    /// `bind JOB`: loads the program of the job in this file, and prints the slots of its process.
+    BindJob { job: Name },
     /// `code F`: prints the words of the executable segments of the object in file F.
     Code { file: Name },
     /// `show F`: prints what the object in file F holds.
@@ -32,16 +36,40 @@ fn name_of(alloc: Global, word: &[u8]) -> Result<Option<Name>, Memory>
     }
 }
 
-/// `bind F TEXT DATA`, by the words behind `bind`.
+/// `bind F TEXT DATA`, by its three words.
+fn bind_file_of(
+    alloc: Global,
+    file: &[u8],
+    text: &[u8],
+    data: &[u8],
+) -> Result<Option<Command>, Memory>
+    ensures { IfOk result (λ command. command ≡ forms.bind_with (forms.name_of file.now) (number_of text.now) (number_of «data».now)) }
+{
+    match (name_of(alloc, file)?, number(text), number(data)) {
+        (Some(file), Some(text), Some(data)) => Ok(Some(Command::Bind { file, text, data })),
+        _ => Ok(None),
+    }
+}
+
+/// `bind JOB`, by its word.
+fn bind_job_of(alloc: Global, job: &[u8]) -> Result<Option<Command>, Memory>
+    ensures { IfOk result (λ command. command ≡ option_map BindJob (forms.name_of job.now)) }
+{
+    match name_of(alloc, job)? {
+        Some(job) => Ok(Some(Command::BindJob { job })),
+        None => Ok(None),
+    }
+}
+
+/// `bind JOB` or `bind F TEXT DATA`, by the words behind `bind`.
 fn bind_of(alloc: Global, words: &[Bytes]) -> Result<Option<Command>, Memory>
     ensures { IfOk result (λ command. command ≡ forms.bind_of words.now) }
 {
-    let [file, text, data] = words else {
-        return Ok(None);
-    };
-    let file = name_of(alloc, file.as_slice())?;
-    match (file, number(text.as_slice()), number(data.as_slice())) {
-        (Some(file), Some(text), Some(data)) => Ok(Some(Command::Bind { file, text, data })),
+    match words {
+        [job] => bind_job_of(alloc, job.as_slice()),
+        [file, text, data] => {
+            bind_file_of(alloc, file.as_slice(), text.as_slice(), data.as_slice())
+        }
         _ => Ok(None),
     }
 }

@@ -14,6 +14,7 @@ ghost use Rattle.fdpic_cmd.specs.Outcome.{Outcome, refuses};
 
 use crate::bind::bind;
 use crate::command::{Command, command_of};
+use crate::job::bind_job;
 use crate::line::line;
 use crate::show::{code, show};
 use crate::status::{Failure, Status};
@@ -72,6 +73,10 @@ fn perform<S: Store, O: Sink>(
     match command {
         Command::Bind { file, text, data } => {
             let text = bind(alloc, store, file, *text, *data);
+            say(out, text)
+        }
+        Command::BindJob { job } => {
+            let text = bind_job(alloc, store, job);
             say(out, text)
         }
         Command::Code { file } => {

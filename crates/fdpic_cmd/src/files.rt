@@ -13,7 +13,7 @@ use fd_base::{Bytes, FetchErr, Name, Store};
 use std::alloc::Global;
 
 /// The bytes of a file.
-fn fetched<S: Store>(alloc: Global, store: &mut S, name: &Name) -> Result<Bytes, Failure>
+pub fn fetched<S: Store>(alloc: Global, store: &mut S, name: &Name) -> Result<Bytes, Failure>
     ensures answer { Fetched (S.files store.old) name.now (S.faults store.old) (S.faults store.new) result }
     ensures short { IfOk result (λ bytes. length bytes ≤ MAX_FILE) }
     ensures files { S.files store.new ≡ S.files store.old }

@@ -2,12 +2,15 @@
 
 ghost use Rattle.std.specs.Prelude.{◌≡◌, ◌++◌, IfOk, OnOk, codes};
 ghost use Rattle.fd_base.specs.Texts.{shown};
+ghost use Rattle.fdpic_cmd.specs.Listing.{decimal_field, word_field, name_word};
 ghost use Rattle.fdpic_cmd.specs.Lines as spec;
 
+use crate::listing::{put_hex, put_name, put_number};
 use crate::status::{Refusal, Status};
 use elf_model::{ElfKind, ElfRefusal};
 use fd_base::{Bytes, Memory, Name, put_dec, put_shown};
-use mod_load::LoadRefusal;
+use job_text::JobKind;
+use load_model::LoadRefusal;
 use std::alloc::Global;
 
 /// The word of a kind.
@@ -50,12 +53,45 @@ fn put_test(out: &mut Bytes, refusal: &ElfRefusal) -> Result<(), Memory>
     put_dec(out, refusal.at)
 }
 
+/// The word of a kind of jobs' refusals.
+fn job_word(kind: JobKind) -> &'static [u8]
+    ensures { result.now ≡ spec.job_word kind }
+{
+    match kind {
+        JobKind::First => b"First",
+        JobKind::Word => b"Word",
+        JobKind::Form => b"Form",
+        JobKind::Range => b"Range",
+        JobKind::Twice => b"Twice",
+        JobKind::TooMany => b"TooMany",
+        JobKind::NoProgram => b"NoProgram",
+        JobKind::Small => b"Small",
+    }
+}
+
 /// Puts a word and a name.
 fn put_named(out: &mut Bytes, word: &[u8], name: &Name) -> Result<(), Memory>
     ensures { OnOk result (out.new ≡ out.old ++ (word.now ++ shown name.now)) }
 {
     out.extend_from_slice(word)?;
     put_shown(out, name)
+}
+
+/// Puts a word, the number of a module and a symbol's name.
+fn put_symbol(out: &mut Bytes, word: &[u8], m: u32, name: &Option<Name>) -> Result<(), Memory>
+    ensures { OnOk result (out.new ≡ out.old ++ (word.now ++ decimal_field m ++ word_field (name_word name.now))) }
+{
+    out.extend_from_slice(word)?;
+    put_number(out, m)?;
+    put_name(out, name)
+}
+
+/// Puts a word and a number.
+fn put_counted(out: &mut Bytes, word: &[u8], n: u32) -> Result<(), Memory>
+    ensures { OnOk result (out.new ≡ out.old ++ (word.now ++ decimal_field n)) }
+{
+    out.extend_from_slice(word)?;
+    put_number(out, n)
 }
 
 /// Puts what is said of a refused load.
@@ -73,9 +109,13 @@ fn put_load(out: &mut Bytes, refusal: &LoadRefusal) -> Result<(), Memory>
         LoadRefusal::NoFile(name) => put_named(out, b"NoFile ", name),
         LoadRefusal::TooLong(name) => put_named(out, b"TooLong ", name),
         LoadRefusal::TooManyModules => out.extend_from_slice(b"TooManyModules"),
-        LoadRefusal::NoRoom(item) => {
-            out.extend_from_slice(b"NoRoom ")?;
-            put_dec(out, *item)
+        LoadRefusal::Unresolved(m, name) => put_symbol(out, b"Unresolved", *m, name),
+        LoadRefusal::NotCode(m, name) => put_symbol(out, b"NotCode", *m, name),
+        LoadRefusal::DescriptorsFull(free) => put_counted(out, b"DescriptorsFull", *free),
+        LoadRefusal::NoRoom(item) => put_counted(out, b"NoRoom", *item),
+        LoadRefusal::BadAddress(m, site) => {
+            put_counted(out, b"BadAddress", *m)?;
+            put_hex(out, *site)
         }
     }
 }
@@ -93,6 +133,12 @@ fn put_refusal(out: &mut Bytes, refusal: &Refusal) -> Result<(), Memory>
         }
         Refusal::NoFile(name) => put_named(out, b"no file ", name),
         Refusal::TooLong(name) => put_named(out, b"too long ", name),
+        Refusal::Job(line, kind) => {
+            out.extend_from_slice(b"job ")?;
+            out.extend_from_slice(job_word(*kind))?;
+            out.extend_from_slice(b" line ")?;
+            put_dec(out, *line)
+        }
         Refusal::Load(refusal) => {
             out.extend_from_slice(b"load ")?;
             put_load(out, refusal)

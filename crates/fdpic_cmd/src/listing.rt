@@ -20,7 +20,7 @@ fn put_word(out: &mut Bytes, word: &[u8]) -> Result<(), Memory>
 }
 
 /// Puts a number behind a space.
-fn put_number(out: &mut Bytes, n: u32) -> Result<(), Memory>
+pub fn put_number(out: &mut Bytes, n: u32) -> Result<(), Memory>
     ensures { OnOk result (out.new ≡ out.old ++ spec.decimal_field n) }
 {
     out.push(b' ')?;
@@ -37,7 +37,7 @@ fn put_index(out: &mut Bytes, i: usize) -> Result<(), Memory>
 }
 
 /// Puts `0x` and eight digits behind a space.
-fn put_hex(out: &mut Bytes, n: u32) -> Result<(), Memory>
+pub fn put_hex(out: &mut Bytes, n: u32) -> Result<(), Memory>
     ensures { OnOk result (out.new ≡ out.old ++ spec.hex_field n) }
 {
     out.push(b' ')?;
@@ -117,7 +117,7 @@ fn put_soname(out: &mut Bytes, soname: &Option<Name>) -> Result<(), Memory>
 }
 
 /// Puts a name behind a space, a dash where there is none.
-fn put_name(out: &mut Bytes, name: &Option<Name>) -> Result<(), Memory>
+pub fn put_name(out: &mut Bytes, name: &Option<Name>) -> Result<(), Memory>
     ensures { OnOk result (out.new ≡ out.old ++ spec.word_field (spec.name_word name.now)) }
 {
     match name {

@@ -7,9 +7,12 @@ mod code;
 mod command;
 mod entry;
 mod files;
+mod job;
 mod line;
 mod listing;
+mod program;
 mod show;
+mod slot_listing;
 mod status;
 #[cfg(test)]
 mod tests;

@@ -2,7 +2,8 @@
 
 use elf_model::ElfRefusal;
 use fd_base::Name;
-use mod_load::LoadRefusal;
+use job_text::JobKind;
+use load_model::{LoadErr, LoadRefusal};
 use std::alloc::AllocError;
 
 /// Why a command is refused.
@@ -14,6 +15,8 @@ pub enum Refusal {
     NoFile(Name),
     /// The file of this name, which the words name, is longer than `MAX_FILE`.
     TooLong(Name),
+    /// The file that the words name as a job's is none: the first line that is wrong, and what is wrong with it.
+    Job(u32, JobKind),
     /// Loading is refused, for another cause than these.
     Load(LoadRefusal),
 }
@@ -70,5 +73,20 @@ impl From<AllocError> for Failure {
 
     fn from(_error: AllocError) -> Self {
         Failure::Memory
+    }
+}
+
+impl From<LoadErr> for Failure {
+    ghost use Rattle.std.specs.Prelude.{◌≡◌};
+    ghost use Rattle.fdpic_cmd.specs.Program.{load_failure};
+
+    ghost from_gives = { λ error e. e ≡ load_failure error };
+
+    fn from(error: LoadErr) -> Self {
+        match error {
+            LoadErr::Refused(refusal) => Failure::Refused(Refusal::Load(refusal)),
+            LoadErr::StoreFault => Failure::StoreFault,
+            LoadErr::Memory => Failure::Memory,
+        }
     }
 }

@@ -123,6 +123,221 @@ fn library(alloc: Global) -> Result<Vec<u8>, Fail> {
     Ok(image.bytes)
 }
 
+/// An object that needs the library of a name, with a slot at 0x1000c on symbol 1, an undefined function. The strings
+/// are a zero byte, the function's name and the library's.
+fn needing(alloc: Global, strings: [u32; 3]) -> Result<Vec<u8>, Fail> {
+    let [function, library, end] = strings;
+    let tables = [
+        0, 0, 0x1_000c, 0x1a4, // the slot and its relocation
+        1, 2, 1, 0, 0, // the hash table
+        0, 0, 0, 0, 1, 0, 0, 0x12, // the symbols
+        function, library, end, // the strings
+    ];
+    let dynamic = [
+        1, 5, 3, 0x1_0000, 23, 0x1_0014, 2, 8, 20, 17, // the library, the GOT and the slots
+        4, 0x1_001c, 6, 0x1_0030, 5, 0x1_0050, 10, 12, 0, 0, // symbols and strings
+    ];
+    object(alloc, 148, &tables, &dynamic)
+}
+
+/// A slot at 0x1000c on symbol 1, an object of the data.
+fn slotted_on_data(alloc: Global) -> Result<Vec<u8>, Fail> {
+    let tables = [
+        0,
+        0,
+        0x1_000c,
+        0x1a4, // the slot and its relocation
+        1,
+        2,
+        1,
+        0,
+        0, // the hash table
+        0,
+        0,
+        0,
+        0,
+        1,
+        0x1_0000,
+        0,
+        0x1_0011, // the symbols
+        0x6f6f_6600,
+        0, // the strings
+    ];
+    let dynamic = [
+        3, 0x1_0000, 23, 0x1_0014, 2, 8, 20, 17, // the GOT and the slots
+        4, 0x1_001c, 6, 0x1_0030, 5, 0x1_0050, 10, 8, 0, 0, // symbols and strings
+    ];
+    object(alloc, 148, &tables, &dynamic)
+}
+
+/// A library that exports a function `foo` at a link address, by the last word of its symbol.
+fn exporting(alloc: Global, value: u32, place: u32) -> Result<Vec<u8>, Fail> {
+    let tables = [
+        1,
+        2,
+        1,
+        0,
+        0, // the hash table
+        0,
+        0,
+        0,
+        0,
+        1,
+        value,
+        0,
+        place, // the symbols
+        0x6f6f_6600,
+        0, // the strings
+    ];
+    let dynamic = [
+        3, 0x1_0000, 4, 0x1_000c, 6, 0x1_0020, 5, 0x1_0040, 10, 8, 0, 0,
+    ];
+    object(alloc, 148, &tables, &dynamic)
+}
+
+/// An object that needs `weak.so` and then `strong.so`, with a slot at 0x1000c on an undefined function `foo`.
+fn needing_two(alloc: Global) -> Result<Vec<u8>, Fail> {
+    let tables = [
+        0,
+        0,
+        0x1_000c,
+        0x1a4, // the slot and its relocation
+        1,
+        2,
+        1,
+        0,
+        0, // the hash table
+        0,
+        0,
+        0,
+        0,
+        1,
+        0,
+        0,
+        0x12, // the symbols
+        0x6f6f_6600,
+        0x6165_7700,
+        0x6f73_2e6b,
+        0x7274_7300,
+        0x2e67_6e6f,
+        0x6f73, // the strings
+    ];
+    let dynamic = [
+        1, 5, 1, 13, 3, 0x1_0000, 23, 0x1_0014, 2, 8, 20, 17, // the libraries, the GOT and the slots
+        4, 0x1_001c, 6, 0x1_0030, 5, 0x1_0050, 10, 24, 0, 0, // symbols and strings
+    ];
+    object(alloc, 148, &tables, &dynamic)
+}
+
+/// An object with the addresses of the descriptors of two functions of its own.
+fn asking(alloc: Global) -> Result<Vec<u8>, Fail> {
+    let tables = [
+        0,
+        0,
+        0x1_000c,
+        0x1a3,
+        0x1_0010,
+        0x2a3, // two words and their relocations
+        1,
+        3,
+        1,
+        0,
+        2,
+        0, // the hash table
+        0,
+        0,
+        0,
+        0,
+        1,
+        0x300,
+        0,
+        0x1_0012,
+        5,
+        0x340,
+        0,
+        0x1_0012, // the symbols
+        0x6f6f_6600,
+        0x7261_6200,
+        0, // the strings
+    ];
+    let dynamic = [
+        3, 0x1_0000, 17, 0x1_0014, 18, 16, 19, 8, // the GOT and the relocations
+        4, 0x1_0024, 6, 0x1_003c, 5, 0x1_006c, 10, 12, 0, 0, // symbols and strings
+    ];
+    object(alloc, 148, &tables, &dynamic)
+}
+
+/// The digits of a number below 100.
+fn digits(n: u32) -> [u8; 2]
+    requires { n < 100 }
+{
+    [b'0' + (n / 10) as u8, b'0' + (n % 10) as u8]
+}
+
+/// Objects `c00.so` to `c63.so`, each of which needs the next, and the last one `c64.so`.
+fn add_chain(store: &mut MemStore, alloc: Global) -> Result<(), Fail> {
+    for i in 0..64 {
+        let [tens, ones] = digits(i);
+        let [next_tens, next_ones] = digits(i + 1);
+        let needed = u32::from_le_bytes([0, b'c', next_tens, next_ones]);
+        let dynamic = [1, 1, 3, 0x1_0000, 5, 0x1_000c, 10, 8, 0, 0];
+        let bytes = object(alloc, 148, &[needed, 0x006f_732e], &dynamic)?;
+        add(store, alloc, &[b'c', tens, ones, b'.', b's', b'o'], &bytes)?;
+    }
+    Ok(())
+}
+
+/// Objects whose loads are refused after their files are read, or that need others.
+fn add_linked(store: &mut MemStore, alloc: Global) -> Result<(), Fail> {
+    let data = [3, 0x1_0000, 23, 0x1_0014, 2, 8, 20, 17, 0, 0];
+    let lost = object(alloc, 148, &[0x1_0000, 0, 0x1_000c, 164], &data)?;
+    add(store, alloc, b"lost.so", &lost)?;
+    add(store, alloc, b"data.so", &slotted_on_data(alloc)?)?;
+    add(store, alloc, b"asks.so", &asking(alloc)?)?;
+    add(store, alloc, b"two.so", &needing_two(alloc)?)?;
+    add(
+        store,
+        alloc,
+        b"weak.so",
+        &exporting(alloc, 0x300, 0x1_0022)?,
+    )?;
+    add(
+        store,
+        alloc,
+        b"strong.so",
+        &exporting(alloc, 0x340, 0x1_0012)?,
+    )
+}
+
+/// Jobs, and texts that are none: with another first line, a memory of no whole pages and no program.
+const JOBS: [(&[u8], &[u8]); 10] = [
+    (
+        b"two.job",
+        b"fdpic-job 1\nprogram two.so\nplace two.so 0x20000 0x80000\nplace weak.so 0x40000 0x50000\n",
+    ),
+    (
+        b"full.job",
+        b"fdpic-job 1\ndescriptors 1\nprogram asks.so\n",
+    ),
+    (
+        b"slot.job",
+        b"fdpic-job 1\nprogram e.so\nplace e.so 0x20000 0x80000\n",
+    ),
+    (
+        b"needing.job",
+        b"fdpic-job 1\nmode lazy\nprogram main.so\nplace main.so 0x20000 0x80000\n",
+    ),
+    (b"second.job", b"fdpic-job 2\nprogram e.so\n"),
+    (b"range.job", b"fdpic-job 1\nmemory 70000\n"),
+    (b"none.job", b"fdpic-job 1\n"),
+    (b"gone.job", b"fdpic-job 1\nprogram gone\n"),
+    (b"short.job", b"fdpic-job 1\nprogram short.so\n"),
+    (
+        b"own.job",
+        b"fdpic-job 1\nprogram own.job\n# a text of more bytes than an ELF header\n",
+    ),
+];
+
 /// What the program ends with, over the files below.
 #[derive(Clone, Copy)]
 struct Case {
@@ -151,7 +366,7 @@ fn add(store: &mut MemStore, alloc: Global, name: &[u8], bytes: &[u8]) -> Result
     Ok(())
 }
 
-/// A folder of objects, and of files that are none: of no bytes, of 51, with relocations that have addends of their
+/// A folder of objects and jobs, and of files that are none: of no bytes, of 51, with relocations that have addends of their
 /// own at offset 496, and too long.
 fn folder(alloc: Global) -> Result<MemStore, Fail> {
     let mut store = MemStore::new(alloc);
@@ -164,6 +379,26 @@ fn folder(alloc: Global) -> Result<MemStore, Fail> {
     add(&mut store, alloc, b"e.so", &slotted(alloc)?)?;
     add(&mut store, alloc, b"local.so", &slotted_on_symbol(alloc)?)?;
     add(&mut store, alloc, b"foo.so", &library(alloc)?)?;
+    for (name, strings) in [
+        (
+            b"main.so".as_slice(),
+            [0x6f6f_6600, 0x6f6f_6600, 0x006f_732e],
+        ),
+        (
+            b"gone.so".as_slice(),
+            [0x6f6f_6600, 0x6f6f_6600, 0x0078_782e],
+        ),
+        (
+            b"bar.so".as_slice(),
+            [0x7261_6200, 0x6f6f_6600, 0x006f_732e],
+        ),
+    ] {
+        add(&mut store, alloc, name, &needing(alloc, strings)?)?;
+    }
+    add_linked(&mut store, alloc)?;
+    for (name, text) in JOBS {
+        add(&mut store, alloc, name, text)?;
+    }
     add(
         &mut store,
         alloc,
@@ -188,7 +423,15 @@ fn words_of(alloc: Global, text: &[u8]) -> Result<Vec<Bytes>, Fail> {
 }
 
 fn check(rt: &impl Abort, alloc: Global, case: &Case) -> Result<(), Fail> {
-    let mut store = folder(alloc)?;
+    check_over(rt, alloc, folder(alloc)?, case)
+}
+
+fn check_over(
+    rt: &impl Abort,
+    alloc: Global,
+    mut store: MemStore,
+    case: &Case,
+) -> Result<(), Fail> {
     store.fail_at(case.store_fails_at)?;
     let mut out = MemSink::new(alloc);
     out.fail_at(case.out_fails_at)?;
@@ -256,8 +499,35 @@ fn slots_on_symbols_and_other_objects(rt: HostRuntime) -> Result<(), Fail> {
         },
         Case {
             words: b"bind foo.so 0x20000 0x80000",
+            ..ORDINARY
+        },
+        Case {
+            words: b"bind main.so 0x20000 0x80000",
+            out: b"slot 0 0 0x0008000c 0x00003200 0x00003210\n",
+            ..ORDINARY
+        },
+        Case {
+            words: b"bind gone.so 0x20000 0x80000",
             status: 5,
-            err: b"fdpic: load NotBuilt foo.so\n",
+            err: b"fdpic: load NoFile foo.xx\n",
+            ..ORDINARY
+        },
+        Case {
+            words: b"bind bar.so 0x20000 0x80000",
+            status: 5,
+            err: b"fdpic: load Unresolved 0 bar\n",
+            ..ORDINARY
+        },
+        Case {
+            words: b"bind data.so 0x20000 0x80000",
+            status: 5,
+            err: b"fdpic: load NotCode 0 foo\n",
+            ..ORDINARY
+        },
+        Case {
+            words: b"bind lost.so 0x20000 0x80000",
+            status: 5,
+            err: b"fdpic: load BadAddress 0 0x0001000c\n",
             ..ORDINARY
         },
         Case {
@@ -282,6 +552,130 @@ fn slots_on_symbols_and_other_objects(rt: HostRuntime) -> Result<(), Fail> {
             words: b"code none",
             status: 5,
             err: b"fdpic: no file none\n",
+            ..ORDINARY
+        },
+    ] {
+        check(&rt, alloc, &case)?;
+    }
+    Ok(())
+}
+
+#[test]
+fn bind_loads_job(rt: HostRuntime) -> Result<(), Fail> {
+    let alloc = rt.alloc();
+    for case in [
+        Case {
+            words: b"bind slot.job",
+            out: b"slot 0 0 0x0008000c 0x00020300 0x00080000\n",
+            ..ORDINARY
+        },
+        Case {
+            words: b"bind needing.job",
+            out: b"slot 0 0 0x0008000c 0x00003200 0x00003210\n",
+            ..ORDINARY
+        },
+        Case {
+            words: b"bind two.job",
+            out: b"slot 0 0 0x0008000c 0x00040300 0x00050000\n",
+            ..ORDINARY
+        },
+        Case {
+            words: b"bind full.job",
+            status: 5,
+            err: b"fdpic: load DescriptorsFull 1\n",
+            ..ORDINARY
+        },
+        Case {
+            words: b"bind needing.job",
+            store_fails_at: 3,
+            status: 3,
+            err: b"fdpic: store fault\n",
+            ..ORDINARY
+        },
+        Case {
+            words: b"bind gone.job",
+            status: 5,
+            err: b"fdpic: load NoFile gone\n",
+            ..ORDINARY
+        },
+        Case {
+            words: b"bind short.job",
+            status: 5,
+            err: b"fdpic: load Elf short.so Short at 51\n",
+            ..ORDINARY
+        },
+        Case {
+            words: b"bind own.job",
+            status: 5,
+            err: b"fdpic: load Elf own.job Ident at 0\n",
+            ..ORDINARY
+        },
+        Case {
+            words: b"bind slot.job",
+            store_fails_at: 2,
+            status: 3,
+            err: b"fdpic: store fault\n",
+            ..ORDINARY
+        },
+    ] {
+        check(&rt, alloc, &case)?;
+    }
+    Ok(())
+}
+
+#[test]
+fn no_more_than_64_modules(rt: HostRuntime) -> Result<(), Fail> {
+    let alloc = rt.alloc();
+    let mut store = MemStore::new(alloc);
+    add_chain(&mut store, alloc)?;
+    let case = Case {
+        words: b"bind c00.so 0x20000 0x80000",
+        status: 5,
+        err: b"fdpic: load TooManyModules\n",
+        ..ORDINARY
+    };
+    check_over(&rt, alloc, store, &case)
+}
+
+#[test]
+fn bind_refuses_what_is_no_job(rt: HostRuntime) -> Result<(), Fail> {
+    let alloc = rt.alloc();
+    for case in [
+        Case {
+            words: b"bind second.job",
+            status: 5,
+            err: b"fdpic: job First line 1\n",
+            ..ORDINARY
+        },
+        Case {
+            words: b"bind range.job",
+            status: 5,
+            err: b"fdpic: job Range line 2\n",
+            ..ORDINARY
+        },
+        Case {
+            words: b"bind none.job",
+            status: 5,
+            err: b"fdpic: job NoProgram line 2\n",
+            ..ORDINARY
+        },
+        Case {
+            words: b"bind nofile",
+            status: 5,
+            err: b"fdpic: no file nofile\n",
+            ..ORDINARY
+        },
+        Case {
+            words: b"bind long.so",
+            status: 5,
+            err: b"fdpic: too long long.so\n",
+            ..ORDINARY
+        },
+        Case {
+            words: b"bind slot.job",
+            store_fails_at: 1,
+            status: 3,
+            err: b"fdpic: store fault\n",
             ..ORDINARY
         },
     ] {

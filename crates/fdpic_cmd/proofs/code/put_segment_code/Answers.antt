@@ -1,4 +1,4 @@
-use Rattle.std.proofs.Common.{◌≡◌, ◌∙◌, ap, ◌++◌, ◌*◌, ◌+◌, List, ℕ}
+use Rattle.std.proofs.Common.{◌≡◌, ◌∙◌, ap, ◌++◌, ◌*◌, ◌+◌}
 use Rattle.fd_base.specs.Words.{word_in}
 use Rattle.fdpic_cmd.specs.Code.{segment_code_line, code_line}
 use Rattle.fdpic_cmd.proofs.Coded.{put_more}
