@@ -1,0 +1,3 @@
+mod Serving
+pub mod Stopping
+mod Ending

@@ -1,0 +1,117 @@
+//! The calls of a thread after a step.
+
+ghost use Rattle.std.specs.Prelude.{◌≡◌, ◌++◌, IfOk, OnOk, All, filter, map, not};
+ghost use Rattle.std.specs.List.{flat_map};
+ghost use Rattle.run_model.specs.Turns as spec;
+ghost use Rattle.run_places.specs.Placed.{ArePlaced};
+ghost use Rattle.run_turn.specs.Progress.{IsInProgress};
+
+use elf_model::Func;
+use fd_base::{Memory, Seq};
+use load_image::LoadMap;
+use load_model::Process;
+use run_model::{Call, Calls, Event, Thread};
+use run_places::{call_begun, code_at};
+use std::alloc::Global;
+
+/// Events in order.
+pub type Events = Seq<Event>;
+
+/// The call after one more step of its thread.
+fn advanced(call: &Call) -> Call
+    requires { IsInProgress call.now }
+    ensures { result ≡ spec.advanced call.now }
+{
+    let mut later = *call;
+    later.done += 1;
+    later
+}
+
+/// The calls that have not arrived after one more step of their thread.
+fn going_on(alloc: Global, calls: &[Call]) -> Result<Calls, Memory>
+    requires { All IsInProgress calls.now }
+    ensures value { IfOk result (λ later. later ≡ filter (λ call. not (spec.is_complete call)) (map spec.advanced calls.now)) }
+    ensures progress { IfOk result (All IsInProgress) }
+{
+    let mut going = Calls::new(alloc);
+    for call in calls {
+        let later = advanced(call);
+        if later.done != later.length {
+            going.push(later)?;
+        }
+    }
+    Ok(going)
+}
+
+/// Puts the arrival of a call at the place that the pc names, if it names one.
+fn put_arrival(
+    events: &mut Events,
+    step: u32,
+    thread: u32,
+    place: &Option<Func>,
+) -> Result<(), Memory>
+    ensures { OnOk result (events.new ≡ events.old ++ spec.arrival step thread place.now) }
+{
+    match place {
+        Some(at) => events.push(Event::Arrive {
+            step,
+            thread,
+            at: *at,
+        }),
+        None => Ok(()),
+    }
+}
+
+/// Puts the arrivals of the calls that end by one more step of their thread.
+fn put_arrivals(
+    events: &mut Events,
+    step: u32,
+    thread: u32,
+    place: &Option<Func>,
+    calls: &[Call],
+) -> Result<(), Memory>
+    requires { All IsInProgress calls.now }
+    ensures { OnOk result (events.new ≡ events.old
+        ++ flat_map (λ call. spec.arrival step thread place.now) (filter spec.is_complete (map spec.advanced calls.now))) }
+{
+    for call in calls {
+        let later = advanced(call);
+        if later.done == later.length {
+            put_arrival(events, step, thread, place)?;
+        }
+    }
+    Ok(())
+}
+
+/// Moves the calls of a thread on after a step that is the `step`-th of the run: those that arrive have their events,
+/// and so has the one that begins where the thread stands now.
+pub fn follow(
+    alloc: Global,
+    process: &Process,
+    maps: &[LoadMap],
+    step: u32,
+    number: u32,
+    thread: &mut Thread,
+    events: &mut Events,
+) -> Result<(), Memory>
+    requires placed { ArePlaced process.now maps.now }
+    requires calls { All IsInProgress thread.old.calls }
+    ensures thread { OnOk result (thread.new ≡ spec.with_calls process.entry.now maps.now thread.old) }
+    ensures events { OnOk result (events.new ≡ events.old ++ spec.call_events process.entry.now maps.now step number thread.old) }
+    ensures calls { OnOk result (All IsInProgress thread.new.calls) }
+{
+    let place = code_at(process, maps, thread.cpu.r[15]);
+    put_arrivals(events, step, number, &place, thread.calls.as_slice())?;
+    let mut calls = going_on(alloc, thread.calls.as_slice())?;
+    if let Some(call) = call_begun(process, maps, &thread.cpu) {
+        events.push(Event::Enter {
+            step,
+            thread: number,
+            number: call.number,
+            slot: call.slot,
+        })?;
+        calls.push(call)?;
+    }
+    thread.calls = calls;
+    Ok(())
+}
