@@ -1,0 +1,181 @@
+-- A call in progress has its line of arrival with the last of its steps.
+use Rattle.std.proofs.Common.{◌≡◌, ◌≢◌, ℕ, zero, suc, ◌+◌, ◌<◌, ◌≤◌, Bool, true, false, cond, List, [], ◌∷◌, ◌++◌, Option, Some, None, refl, ap, sym, subst, ◌∙◌, arith, inl}
+use Rattle.std.specs.Prelude.{Contains, IfSome, filter, map, nat_le, not, option_and_then, option_map, ◌==◌}
+use Rattle.std.specs.List.{flat_map}
+use Rattle.std.specs.Option.{option_map_or, option_to_list}
+use Rattle.std.proofs.lemmas.Bool.{eqb-true, eqb-false}
+use Rattle.std.proofs.lemmas.List.{get_or-set_same}
+use Rattle.std.proofs.lemmas.Option.{IfSome_then}
+use Rattle.elf_model.specs.declared.func.Func.{Func}
+use Rattle.a32_machine.specs.declared.cpu.Cpu.{Cpu}
+use Rattle.a32_machine.specs.Registers.{pc_of}
+use Rattle.a32_machine.specs.Step.{step_of}
+use Rattle.a32_machine.specs.Stepped.{went_on}
+use Rattle.run_model.specs.declared.event.Event.{Event}
+use Rattle.run_model.specs.declared.event.Event.TheVariants.{Arrive}
+use Rattle.run_model.specs.declared.thread.Call.{Call}
+use Rattle.run_model.specs.declared.thread.Thread.{Thread}
+use Rattle.run_model.specs.declared.thread.Turned.TheVariants.{Next}
+use Rattle.run_model.specs.Places.{call_begun, code_at}
+use Rattle.run_model.specs.State.{State, thread_at}
+use Rattle.run_model.specs.Turns.{Taken, advanced, arrival, entering, is_complete, turn_of, went, with_calls}
+use Rattle.run_calls.specs.Calls.{BoundCall, Begins, HasCpu, Holds, cpu_after, slot_of}
+use Rattle.run_calls.specs.Laws.{EntersArrive, IsTurnOf}
+use Rattle.run_calls.specs.Schedules.{after, events_from, own_turns, turns_from}
+use Rattle.run_calls.proofs.Having.{Has, contains_has, has_contains, has_filter, has_flat_map, has_left, has_map, has_right}
+use Rattle.run_calls.proofs.Steps.{standing-pc}
+use Rattle.run_calls.proofs.Turning.{turns_keep}
+use Rattle.run_calls.proofs.Walking.{InCall, call_step, holds_kept, stopped_is, thread_inside, thread_of, went_is}
+
+-- a call with so many steps done is among these
+record IsMade (calls : List Call) (n : ℕ) : Type 0 where
+  call : Call
+  among : Has calls call
+  length : call.length ≡ 4
+  done : call.done ≡ n
+
+complete_at : (call : Call) (n : ℕ) → call.length ≡ 4 → call.done ≡ n → is_complete (advanced call) ≡ (suc n == 4)
+complete_at call n l d = rw (l, d) refl
+
+not_yet : (n : ℕ) → suc n < 4 → not (suc n == 4) ≡ true
+not_yet zero l = refl
+not_yet (suc zero) l = refl
+not_yet (suc (suc zero)) l = refl
+not_yet (suc (suc (suc n))) l = absurd (omega arith)
+
+-- one more step of the thread
+made_next : (calls : List Call) (begun : Option Call) (n : ℕ) → suc n < 4 → IsMade calls n
+    → IsMade (filter (λ call. not (is_complete call)) (map advanced calls) ++ option_to_list begun) (suc n)
+made_next calls begun n l m = record {
+  call = advanced m.call;
+  among = has_left _ (option_to_list begun) (advanced m.call)
+      (has_filter (λ call. not (is_complete call)) (map advanced calls) (advanced m.call) (ap not (complete_at m.call n m.length m.done) ∙ not_yet n l) (has_map advanced calls m.call m.among));
+  length = m.length;
+  done = ap suc m.done;
+}
+
+arrival_made : (calls : List Call) (begun : Option Call) (steps t : ℕ) (place : Option Func) (f : Func) → place ≡ Some f → IsMade calls 3
+    → Has (flat_map (λ call. arrival steps t place) (filter is_complete (map advanced calls)) ++ map (entering steps t) (option_to_list begun)) (Arrive steps t f)
+arrival_made calls begun steps t place f at m =
+    has_left _ _ (Arrive steps t f)
+    (has_flat_map (λ call. arrival steps t place) (filter is_complete (map advanced calls)) (advanced m.call) (Arrive steps t f)
+    (has_filter is_complete (map advanced calls) (advanced m.call) (complete_at m.call 3 m.length m.done) (has_map advanced calls m.call m.among))
+    (rw at (inl refl)))
+
+same_thread : (o : Option Thread) (x y : Thread) → o ≡ Some x → o ≡ Some y → x ≡ y
+same_thread o x y e f = cc
+
+module _ (limit t : ℕ) (begin : Cpu) (c : BoundCall) (f : Func) (begins : Begins begin c) where
+  record Making (n : ℕ) (s : State) : Type 0 where
+    at : InCall begin c t n s
+    made : (thread : Thread) → thread_at s.threads t ≡ Some thread → IsMade thread.calls n
+    place : code_at s.loaded.process s.loaded.maps c.function ≡ Some f
+
+  abbrev HasArrival : List Event → Type 0
+  HasArrival events = (step : ℕ) × Has events (Arrive step t f)
+
+  -- ---- a turn of the calling thread
+
+  next_by : (s : State) (n : ℕ) (b : Bool) → nat_le limit s.steps ≡ b → suc n < 4 → Making n s → IfSome (after (turn_of limit s t)) (Making (suc n))
+  next_by s n true late l h =
+      let live = thread_of (thread_at s.threads t) (cpu_after begin c n) h.at.cpu in
+      rw (stopped_is limit s t live.thread live.at late) tt
+  next_by s n false early l h =
+      let live = thread_of (thread_at s.threads t) (cpu_after begin c n) h.at.cpu in
+      let cpu : Cpu = cpu_after begin c (suc n) in
+      let step : step_of live.thread.cpu s.loaded.memory ≡ went_on cpu s.loaded.memory =
+      ap (λ x. step_of x s.loaded.memory) live.is ∙ call_step begin c s.loaded.memory n begins h.at.holds (omega arith) in
+      let moved : Thread = record live.thread { cpu = cpu } in
+      let there = get_or-set_same s.threads t (Some (with_calls s.loaded.process s.loaded.maps moved)) None (thread_inside s.threads t live.thread live.at) in
+      let made : IsMade (with_calls s.loaded.process s.loaded.maps moved).calls (suc n) = made_next live.thread.calls (call_begun s.loaded.process s.loaded.maps cpu) n l (h.made live.thread live.at) in
+      rw (went_is limit s t live.thread cpu live.at early step)
+      (record {
+        at = record { cpu = ap (option_map (λ (thread : Thread). thread.cpu)) there; holds = h.at.holds };
+        made = λ thread at. subst (λ (x : Thread). IsMade x.calls (suc n)) (same_thread _ (with_calls s.loaded.process s.loaded.maps moved) thread there at) made;
+        place = h.place;
+      })
+
+  last_by : (s : State) (b : Bool) → nat_le limit s.steps ≡ b → Making 3 s → IfSome (after (turn_of limit s t)) (λ later. HasArrival (turn_of limit s t).events)
+  last_by s true late h =
+      let live = thread_of (thread_at s.threads t) (cpu_after begin c 3) h.at.cpu in
+      rw (stopped_is limit s t live.thread live.at late) tt
+  last_by s false early h =
+      let live = thread_of (thread_at s.threads t) (cpu_after begin c 3) h.at.cpu in
+      let cpu : Cpu = cpu_after begin c 4 in
+      let step : step_of live.thread.cpu s.loaded.memory ≡ went_on cpu s.loaded.memory =
+      ap (λ x. step_of x s.loaded.memory) live.is ∙ call_step begin c s.loaded.memory 3 begins h.at.holds (omega arith) in
+      let at_function : pc_of cpu ≡ c.function = standing-pc begin s.loaded.memory begins.registers c.function (slot_of c) c.function_got in
+      let place : code_at s.loaded.process s.loaded.maps (pc_of cpu) ≡ Some f = ap (code_at s.loaded.process s.loaded.maps) at_function ∙ h.place in
+      rw (went_is limit s t live.thread cpu live.at early step)
+      (suc s.steps, arrival_made live.thread.calls (call_begun s.loaded.process s.loaded.maps cpu) (suc s.steps) t _ f place (h.made live.thread live.at))
+
+  -- ---- a turn of another
+
+  other_makes : (s : State) (u n : ℕ) → t ≢ u → Making n s → IfSome (after (turn_of limit s u)) (Making n)
+  other_makes s u n ne h =
+      IfSome_then (after (turn_of limit s u)) {P = IsTurnOf u s} {Q = Making n} (turns_keep limit s u)
+      (λ later k. record {
+        at = record {
+          cpu = ap (option_map (λ (thread : Thread). thread.cpu)) (k.others t ne) ∙ h.at.cpu;
+          holds = holds_kept s.loaded.memory later.loaded.memory c k.keeps h.at.holds;
+        };
+        made = λ thread at. h.made thread (sym (k.others t ne) ∙ at);
+        place = rw (k.process, k.maps) h.place;
+      })
+
+  -- ---- all turns
+
+  always : (o : Option State) (P : Type 0) → P → IfSome o (λ later. P)
+  always None P p = tt
+  always (Some s) P p = p
+
+  -- the arrival is among the events of a turn
+  arrival_first : (us : List ℕ) (events : List Event) (o : Option State) → IfSome o (λ later. HasArrival events)
+      → IfSome (option_and_then (turns_from limit us) o) (λ later. HasArrival (events ++ option_map_or (events_from limit us) o []))
+  arrival_first us events None h = tt
+  arrival_first us events (Some s) h = always (turns_from limit us s) _ (h.0, has_left events (events_from limit us s) _ h.1)
+
+  -- or among those of the later turns
+  arrival_later : (us : List ℕ) (events : List Event) (P : State → Type 0) (o : Option State) → IfSome o P
+      → ((s : State) → P s → IfSome (turns_from limit us s) (λ later. HasArrival (events_from limit us s)))
+      → IfSome (option_and_then (turns_from limit us) o) (λ later. HasArrival (events ++ option_map_or (events_from limit us) o []))
+  arrival_later us events P None h g = tt
+  arrival_later us events P (Some s) h g =
+      IfSome_then (turns_from limit us s) {P = λ later. HasArrival (events_from limit us s)} {Q = λ later. HasArrival (events ++ events_from limit us s)} (g s h)
+      (λ later k. (k.0, has_right events (events_from limit us s) _ k.1))
+
+  last_turn : (us : List ℕ) (s : State) → Making 3 s → IfSome (turns_from limit (t ∷ us) s) (λ later. HasArrival (events_from limit (t ∷ us) s))
+  last_turn us s h = arrival_first us (turn_of limit s t).events (after (turn_of limit s t)) (last_by s (nat_le limit s.steps) refl h)
+
+  abbrev Arrives : List ℕ → ℕ → Type 0
+  Arrives schedule n = (s : State) → Making n s → IfSome (turns_from limit schedule s) (λ later. HasArrival (events_from limit schedule s))
+
+  own_makes : (us : List ℕ) (n rest : ℕ) → n < 4 → n + suc rest ≡ 4 → (suc n < 4 → suc n + rest ≡ 4 → Arrives us (suc n)) → Arrives (t ∷ us) n
+  own_makes us zero rest l e later s h = arrival_later us (turn_of limit s t).events (Making 1) (after (turn_of limit s t)) (next_by s 0 (nat_le limit s.steps) refl (omega arith) h) (later (omega arith) (omega arith))
+  own_makes us (suc zero) rest l e later s h = arrival_later us (turn_of limit s t).events (Making 2) (after (turn_of limit s t)) (next_by s 1 (nat_le limit s.steps) refl (omega arith) h) (later (omega arith) (omega arith))
+  own_makes us (suc (suc zero)) rest l e later s h = arrival_later us (turn_of limit s t).events (Making 3) (after (turn_of limit s t)) (next_by s 2 (nat_le limit s.steps) refl (omega arith) h) (later (omega arith) (omega arith))
+  own_makes us (suc (suc (suc zero))) rest l e later s h = last_turn us s h
+  own_makes us (suc (suc (suc (suc n)))) rest l e later s h = absurd (omega arith)
+
+  mutual_turn : (u : ℕ) (us : List ℕ) (n : ℕ) (mine : Bool) → (u == t) ≡ mine → n < 4 → n + cond mine (suc (own_turns t us)) (own_turns t us) ≡ 4
+      → ((k : ℕ) → k < 4 → k + own_turns t us ≡ 4 → Arrives us k) → Arrives (u ∷ us) n
+  mutual_turn u us n true same l e later =
+      subst (λ (v : ℕ). Arrives (v ∷ us) n) (sym (eqb-true u t same)) (own_makes us n (own_turns t us) l e (λ l' e'. later (suc n) l' e'))
+  mutual_turn u us n false other l e later = λ s h.
+      arrival_later us (turn_of limit s u).events (Making n) (after (turn_of limit s u)) (other_makes s u n (λ same. eqb-false u t other (sym same)) h) (later n l e)
+
+  arrives : (schedule : List ℕ) (n : ℕ) → n < 4 → n + own_turns t schedule ≡ 4 → Arrives schedule n
+  arrives [] n l e = absurd (omega arith)
+  arrives (u ∷ us) n l e = mutual_turn u us n (u == t) refl l e (arrives us)
+
+pub enters_arrive : EntersArrive
+enters_arrive limit s schedule t thread call c f at among length done begins holds place own =
+    let first : Making limit t thread.cpu c f begins 0 s = record {
+      at = record { cpu = ap (option_map (λ (x : Thread). x.cpu)) at; holds = holds };
+      made = λ other at'. subst (λ (x : Thread). IsMade x.calls 0) (same_thread (thread_at s.threads t) thread other at at') (record { call = call; among = contains_has thread.calls call among; length = length; done = done });
+      place = place;
+    } in
+    let all : 0 + own_turns t schedule ≡ 4 = omega arith in
+    IfSome_then (turns_from limit schedule s) {P = λ later. (step : ℕ) × Has (events_from limit schedule s) (Arrive step t f)} {Q = λ later. (step : ℕ) × Contains (events_from limit schedule s) (Arrive step t f)}
+    (arrives limit t thread.cpu c f begins schedule 0 (omega arith) all s first)
+    (λ later k. (k.0, has_contains (events_from limit schedule s) (Arrive k.0 t f) k.1))
