@@ -67,7 +67,7 @@ code_for k m o r Nothing f is = absurd cc
 code_for k m o r Unresolved f is = absurd cc
 
 -- the function that a site refers to is code
-code_at : (k : Linkage) (m : ℕ) (o : Object) (r : Rel) (f : Func) → function_at k m o r ≡ Ok (Some f) → is_code k f ≡ true
+pub code_at : (k : Linkage) (m : ℕ) (o : Object) (r : Rel) (f : Func) → function_at k m o r ≡ Ok (Some f) → is_code k f ≡ true
 code_at k m o r f is =
     elim (cases_Bool (is_unnamed o r.symbol)) [
       | inl holds ↦

@@ -43,7 +43,7 @@ pair_at {X} R xs i j x y all lt p q =
     let at_j : get_or xs j x ≡ y = get_or_from_slice_get xs j y x q in
     subst (λ (z : X). R z y) at_i (subst (λ (z : X). R (get_or xs i x) z) at_j (all i j x lt (slice_get_within xs j y q)))
 
-zip_at : {X Y : Type 0} (R : X → Y → Type 0) (xs : List X) (ys : List Y) (k : ℕ) (x : X) → AllZip R xs ys → slice_get xs k ≡ Some x → (y : Y) × (slice_get ys k ≡ Some y) × R x y
+pub zip_at : {X Y : Type 0} (R : X → Y → Type 0) (xs : List X) (ys : List Y) (k : ℕ) (x : X) → AllZip R xs ys → slice_get xs k ≡ Some x → (y : Y) × (slice_get ys k ≡ Some y) × R x y
 zip_at R [] ys k x all is = absurd cc
 zip_at R (z ∷ xs) [] k x all is = absurd all
 zip_at {X} R (z ∷ xs) (y ∷ ys) zero x all is = let same : z ≡ x = cc in (y, refl, subst (λ (w : X). R w y) same all.0)
@@ -80,7 +80,7 @@ linked : (s t : Segment) (d e : MapEntry) → d.vaddr ≡ s.vaddr → d.memsz �
 linked s t d e a b x y apart = elim apart [ inl h ↦ inl (omega arith) | inr h ↦ inr (omega arith) ]
 
 -- the entries of a module's load map share no link address
-linked_apart : (plan : MemPlan) (o : Object) (es : List MapEntry) → IsSound o → AllZip (IsEntryOf plan) o.segments es → AllPairs LinkedApart es
+pub linked_apart : (plan : MemPlan) (o : Object) (es : List MapEntry) → IsSound o → AllZip (IsEntryOf plan) o.segments es → AllPairs LinkedApart es
 linked_apart plan o es sound mapped i j d lt within =
     let first : slice_get es i ≡ Some (get_or es i d) = slice_get-get_or es i d (omega arith) in
     let second : slice_get es j ≡ Some (get_or es j d) = slice_get-get_or es j d within in
