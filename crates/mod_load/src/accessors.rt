@@ -17,7 +17,7 @@ use load_model::{MAX_MODULES, Process};
 use load_process::{is_live, object_at};
 
 impl Loader {
-    ghost use Rattle.std.specs.Prelude.{◌≡◌};
+    ghost use Rattle.std.specs.Prelude.{◌≡◌, ◌^◌, ◌<◌};
     ghost use Rattle.load_model.specs.Process.{is_live};
     ghost use Rattle.load_state.specs.Consistent.{IsConsistent};
     ghost use Rattle.mod_load.specs.Accessors.{module_at, got_at, is_skipped};
@@ -29,6 +29,13 @@ impl Loader {
         ensures value { result.now ≡ self.old.loaded.memory }
     {
         &mut self.guest
+    }
+
+    /// What is true of each loader, for a caller's proof. It does nothing.
+    pub fn whole(&self)
+        ensures { self.now.loaded.plan.memory < 2 ^ 32 }
+    {
+        let _memory = self.plan.memory;
     }
 
     /// The live modules, without addresses.

@@ -54,8 +54,11 @@ impl Model for Loader {
 }
 
 impl Loader {
-    ghost use Rattle.std.specs.Prelude.{◌≡◌, ◌≤◌, false, IfErr, IfOk, option_map};
+    ghost use Rattle.std.specs.Prelude.{◌≡◌, ℕ, ◌-◌, ◌≤◌, false, IfErr, IfOk, option_map};
+    ghost use Rattle.guest_mem.specs.Memory.{byte_at};
+    ghost use Rattle.load_model.specs.declared.layout.TheConstants.{RESOLVER, STUBS_END};
     ghost use Rattle.load_model.specs.Explains.{Explains};
+    ghost use Rattle.load_model.specs.Layout.{is_in};
     ghost use Rattle.load_model.specs.Plan.{Fits};
     ghost use Rattle.load_model.specs.Process.{live_at};
     ghost use Rattle.load_state.specs.Accepts.{IsPlan};
@@ -71,6 +74,7 @@ impl Loader {
     pub fn new(alloc: Global, plan: &MemPlan) -> Result<Loader, Memory>
         requires { Fits plan.now }
         ensures start { IfOk result (λ l. IsStart plan.now l.loaded) }
+        ensures clear { IfOk result (λ l. (a : ℕ) → is_in RESOLVER (STUBS_END - RESOLVER) a ≡ false → byte_at l.loaded.memory a ≡ 0) }
         ensures consistent { IfOk result (λ l. IsConsistent l.loaded) }
     {
         let process = new_process(alloc)?;
