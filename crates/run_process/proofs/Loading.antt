@@ -1,0 +1,154 @@
+-- The load of a program, from what the loader's calls answer.
+use Rattle.std.proofs.Common.{◌≡◌, ℕ, ◌-◌, List, Bool, true, false, Option, Some, None, IfSome, sym, ap, subst, ◌∙◌, inl, inr, refl}
+use Rattle.fd_base.specs.declared.map.MapEntry.{MapEntry}
+use Rattle.fd_base.specs.Fetched.{Files}
+use Rattle.func_desc.specs.Functions.{AddrMap}
+use Rattle.guest_mem.specs.Memory.{Memory, byte_at}
+use Rattle.placement.specs.declared.item.Held.{Held}
+use Rattle.load_model.specs.declared.error.LoadErr.{LoadErr}
+use Rattle.load_model.specs.declared.error.LoadErr.TheVariants.{Refused, StoreFault, Memory as Lacks}
+use Rattle.load_model.specs.declared.error.LoadRefusal.{LoadRefusal}
+use Rattle.load_model.specs.declared.error.LoadRefusal.TheVariants.{NotBuilt, Elf, NoFile, TooLong, TooManyModules, Unresolved, NotCode, DescriptorsFull, NoRoom, BadAddress}
+use Rattle.load_model.specs.declared.layout.TheConstants.{RESOLVER, STUBS_END}
+use Rattle.load_model.specs.declared.module.Joining.{Joining}
+use Rattle.load_model.specs.declared.module.Process.{Process}
+use Rattle.load_model.specs.declared.plan.MemPlan.{MemPlan}
+use Rattle.load_model.specs.Explains.{Explains}
+use Rattle.load_model.specs.Layout.{is_in}
+use Rattle.load_state.specs.declared.plan.GroupPlan.{GroupPlan}
+use Rattle.load_state.specs.Accepts.{IsPlan, Linked}
+use Rattle.load_state.specs.Committed.{IsCommitted}
+use Rattle.load_state.specs.Consistent.{IsConsistent}
+use Rattle.load_state.specs.Loaded.{Loaded}
+use Rattle.load_state.specs.Loading.{IsStart, start_of}
+use Rattle.load_state.specs.Refused.{IsRefused, HasRefusedSite, HasNoSlots, HasNoPlace}
+use Rattle.proc_run.specs.declared.job.Job.{Job}
+use Rattle.run_model.specs.Places.{entry_point}
+use Rattle.run_process.specs.Loads.{ExplainsStart, IsCause, IsRefusedAs, LoadsProgram}
+
+-- ---- loads don't read the memory
+
+module _ (l : Loaded) (memory : Memory) (files : Option Files) (root : List ℕ) where
+  abbrev over : Loaded
+  over = record l { memory = memory }
+
+  linked : (joining : List Joining) (scope : List ℕ) → Linked l files root joining scope → Linked over files root joining scope
+  linked joining scope h = record { names = h.names; walk = h.walk; scope' = h.scope' }
+
+  site_over : (r : LoadRefusal) → HasRefusedSite l files root r → HasRefusedSite over files root r
+  site_over r h = record { joining = h.joining; scope = h.scope; linked = linked h.joining h.scope h.linked; first = h.first }
+
+  slots_over : (n : ℕ) → HasNoSlots l files root n → HasNoSlots over files root n
+  slots_over n h = record {
+    joining = h.joining;
+    scope = h.scope;
+    linked = linked h.joining h.scope h.linked;
+    filled = h.filled;
+    free = h.free;
+    more = h.more;
+  }
+
+  place_over : (i : ℕ) → HasNoPlace l files root i → HasNoPlace over files root i
+  place_over i h = record {
+    joining = h.joining;
+    scope = h.scope;
+    linked = linked h.joining h.scope h.linked;
+    filled = h.filled;
+    enough = h.enough;
+    fails = h.fails;
+  }
+
+  refused_over : (r : LoadRefusal) → IsRefused l files root r → IsRefused over files root r
+  refused_over TooManyModules h = h
+  refused_over (TooLong n) h = h
+  refused_over (NoFile n) h = h
+  refused_over (Elf n r) h = h
+  refused_over (Unresolved m n) h = site_over (Unresolved m n) h
+  refused_over (NotCode m n) h = site_over (NotCode m n) h
+  refused_over (BadAddress m site) h = site_over (BadAddress m site) h
+  refused_over (DescriptorsFull n) h = slots_over n h
+  refused_over (NoRoom i) h = place_over i h
+  refused_over (NotBuilt n) h = absurd h
+
+-- ---- the first load
+
+abbrev made : MemPlan → Process → List (List MapEntry) → List Held → AddrMap → Memory → Loaded
+made plan process maps held addrs memory = record { plan = plan; process = process; maps = maps; held = held; addrs = addrs; memory = memory }
+
+-- what has loaded nothing is the same but for the memory
+start_is : (plan : MemPlan) (l : Loaded) → IsStart plan l → record l { memory = (start_of plan).memory } ≡ start_of plan
+start_is plan l s =
+    let none = start_of plan in
+    ap (λ p. made p l.process l.maps l.held l.addrs none.memory) s.plan'
+    ∙ ap (λ p. made plan p l.maps l.held l.addrs none.memory) s.process'
+    ∙ ap (λ maps. made plan none.process maps l.held l.addrs none.memory) s.maps'
+    ∙ ap (λ held. made plan none.process none.maps held l.addrs none.memory) s.held'
+    ∙ ap (λ addrs. made plan none.process none.maps none.held addrs none.memory) s.addrs'
+
+refused_at_start : (plan : MemPlan) (l : Loaded) (files : Option Files) (root : List ℕ) (r : LoadRefusal) → IsStart plan l
+    → IsRefused l files root r → IsRefused (start_of plan) files root r
+refused_at_start plan l files root r s h = subst (λ x. IsRefused x files root r) (start_is plan l s) (refused_over l (start_of plan).memory files root r h)
+
+-- what the first load comes to
+pub loads : (files : Option Files) (plan : MemPlan) (name : List ℕ) (start mid new : Loaded) (g : GroupPlan) → IsStart plan start → IsConsistent start
+    → ((a : ℕ) → is_in RESOLVER (STUBS_END - RESOLVER) a ≡ false → byte_at start.memory a ≡ 0)
+    → IsPlan start files name false g → mid ≡ start → IsCommitted mid g new → LoadsProgram plan name files new
+loads None plan name start mid new g s consistent clear h same c = tt
+loads (Some told) plan name start mid new g s consistent clear h same c = record {
+  start = start;
+  group = g;
+  fresh = record { starts = s; consistent = consistent; clear = clear };
+  planned = h;
+  committed = subst (λ (l : Loaded). IsCommitted l g new) same c;
+}
+
+is_cause : (files : Option Files) (plan : MemPlan) (name : List ℕ) (start : Loaded) (r : LoadRefusal) → IsStart plan start
+    → IsRefused start files name r → IsCause plan name files r
+is_cause None plan name start r s h = tt
+is_cause (Some told) plan name start r s h = refused_at_start plan start (Some told) name r s h
+
+-- why the first load is refused
+pub refused : (files : Option Files) (plan : MemPlan) (name : List ℕ) (start : Loaded) (old new : ℕ) (e : LoadErr) → IsStart plan start
+    → Explains (IsRefused start files name) old new e → Explains (IsCause plan name files) old new e
+refused files plan name start old new (Refused r) s h = is_cause files plan name start r s h
+refused files plan name start old new StoreFault s h = h
+refused files plan name start old new Lacks s h = tt
+
+-- ---- why no process starts
+
+as_refused : (job : Job) (told : Files) (r : LoadRefusal) (lazy : Bool) → lazy ≡ false → IsRefusedAs false job told r → IsRefusedAs lazy job told r
+as_refused job told r true e h = absurd cc
+as_refused job told r false e h = h
+
+-- the load is refused
+load_is_refused : (files : Option Files) (job : Job) (r : LoadRefusal) → job.lazy ≡ false → IsCause job.plan job.program files r
+    → IfSome files (λ told. IsRefusedAs job.lazy job told r)
+load_is_refused None job r eager h = tt
+load_is_refused (Some told) job r eager h = as_refused job told r job.lazy eager (inl h)
+
+pub not_loaded : (files : Option Files) (job : Job) (old new : ℕ) (e : LoadErr) → job.lazy ≡ false
+    → Explains (IsCause job.plan job.program files) old new e → ExplainsStart job files old new e
+not_loaded files job old new (Refused r) eager h = load_is_refused files job r eager h
+not_loaded files job old new StoreFault eager h = h
+not_loaded files job old new Lacks eager h = tt
+
+-- slots are not bound at their first calls
+pub not_built : (files : Option Files) (job : Job) (old new : ℕ) (program : List ℕ) → job.lazy ≡ true → program ≡ job.program
+    → ExplainsStart job files old new (Refused (NotBuilt program))
+not_built None job old new program lazy is = tt
+not_built (Some told) job old new program lazy is = by job.lazy lazy
+  where
+    by : (lazy : Bool) → lazy ≡ true → IsRefusedAs lazy job told (NotBuilt program)
+    by true e = ap NotBuilt is
+    by false e = absurd cc
+
+-- there is no entry point
+pub no_entry : (files : Option Files) (job : Job) (old new : ℕ) (l : Loaded) → job.lazy ≡ false → LoadsProgram job.plan job.program files l
+    → entry_point l.process l.maps 0 ≡ None → ExplainsStart job files old new (Refused (NotCode 0 None))
+no_entry None job old new l eager loads none = tt
+no_entry (Some told) job old new l eager loads none =
+    as_refused job told (NotCode 0 None) job.lazy eager (inr (refl, record { loaded = l; loads = loads; none = none }))
+
+pub no_entry_as : (files : Option Files) (job : Job) (old new : ℕ) (l : Loaded) (e : LoadErr) → job.lazy ≡ false → LoadsProgram job.plan job.program files l
+    → (e ≡ Refused (NotCode 0 None)) × (entry_point l.process l.maps 0 ≡ None) → ExplainsStart job files old new e
+no_entry_as files job old new l e eager loads h = subst (ExplainsStart job files old new) (sym h.0) (no_entry files job old new l eager loads h.1)

@@ -1,0 +1,96 @@
+//! What a turn of a thread does to the memory, the threads and the journal.
+
+ghost use Rattle.std.specs.Prelude.{◌≡◌, ◌<◌, ◌∷◌, [], true, IfOk, OnOk, All, Some, length, set};
+ghost use Rattle.guest_mem.specs.Kept.{Keeps};
+ghost use Rattle.load_state.specs.Consistent.{IsConsistent};
+ghost use Rattle.load_state.specs.Loaded.{Loaded};
+ghost use Rattle.run_model.specs.declared.event.Event.TheVariants as event;
+ghost use Rattle.run_model.specs.declared.event.Stop.TheVariants as stop;
+ghost use Rattle.run_model.specs.declared.thread.Turned.TheVariants as turned;
+ghost use Rattle.run_model.specs.declared.thread.Thread.{Thread};
+ghost use Rattle.run_model.specs.Obeyed as spec;
+ghost use Rattle.run_model.specs.State.{lives, thread_at};
+ghost use Rattle.run_model.specs.Turns.{turn_of};
+ghost use Rattle.run_process.specs.Taking.{HasObeyed};
+ghost use Rattle.run_turn.specs.Progress.{AreInProgress};
+ghost use Rattle.run_turn.specs.Settling.{state_with};
+
+use fd_base::Memory;
+use mod_load::Loader;
+use run_model::{Event, Served, Stop, Thread, Turned};
+use run_places::consistent_are_placed;
+use run_turn::{Events, Settled, obey, settle, stops_keep};
+use std::alloc::Global;
+
+/// Lets a live thread obey the instruction at its pc.
+fn obeyed(
+    alloc: Global,
+    loader: &mut Loader,
+    threads: &mut [Option<Thread>],
+    t: u32,
+) -> Result<Served, Memory>
+    requires lives { lives threads.old t ≡ true }
+    requires calls { All AreInProgress threads.old }
+    ensures obeyed { (thread : Thread) → thread_at threads.old t ≡ Some thread
+        → IfOk result (HasObeyed loader.old.loaded loader.new.loaded threads.old threads.new t thread) }
+    ensures keeps { Keeps loader.old.loaded.memory loader.new.loaded.memory }
+    ensures rest { loader.new.loaded ≡ record loader.old.loaded { memory = loader.new.loaded.memory } }
+    ensures calls { All AreInProgress threads.new }
+{
+    match &mut threads[t as usize] {
+        Some(thread) => obey(alloc, thread, loader.guest()),
+        None => unreachable!(),
+    }
+}
+
+/// A turn before which all steps are done.
+fn stopped(alloc: Global, step: u32, thread: u32) -> Result<Settled, Memory>
+    ensures { IfOk result (λ r. r ≡ record { answer = turned.Stopped stop.Limit; events = event.Stopped step thread stop.Limit ∷ [] }) }
+{
+    let mut events = Events::new(alloc);
+    events.push(Event::Stopped {
+        step,
+        thread,
+        stop: Stop::Limit,
+    })?;
+    Ok(Settled {
+        answer: Turned::Stopped(Stop::Limit),
+        events,
+    })
+}
+
+/// Takes a turn of a live thread.
+pub(crate) fn take_turn(
+    alloc: Global,
+    loader: &mut Loader,
+    threads: &mut [Option<Thread>],
+    steps: &mut u32,
+    limit: u32,
+    t: u32,
+) -> Result<Settled, Memory>
+    requires lives { lives threads.old t ≡ true }
+    requires calls { All AreInProgress threads.old }
+    requires consistent { IsConsistent loader.old.loaded }
+    ensures taken { IfOk result (λ r. turn_of limit (state_with loader.old.loaded threads.old steps.old) t
+        ≡ record { answer = r.answer; state = state_with loader.new.loaded threads.new steps.new; events = r.events }) }
+    ensures consistent { OnOk result (IsConsistent loader.new.loaded) }
+    ensures count { OnOk result (length threads.new ≡ length threads.old) }
+    ensures calls { OnOk result (All AreInProgress threads.new) }
+{
+    if *steps >= limit {
+        return stopped(alloc, *steps, t);
+    }
+    loader.whole();
+    consistent_are_placed();
+    stops_keep();
+    let served = obeyed(alloc, loader, threads, t)?;
+    settle(
+        alloc,
+        loader.process(),
+        loader.maps(),
+        threads,
+        steps,
+        t,
+        served,
+    )
+}
