@@ -16,18 +16,18 @@ use Rattle.load_image.proofs.Standing.{others_stay}
 use Rattle.load_model.specs.Image.{placed}
 use Rattle.load_model.specs.Linkage.{linkage_of}
 use Rattle.load_model.specs.Process.{object_at}
+use Rattle.load_state.specs.Consistent.{IsConsistent}
 use Rattle.load_state.specs.Loaded.{Loaded, map_at, placing_of}
 use Rattle.plt_code.specs.Entries.{IsPltEntry, IsClear, entry_range}
 use Rattle.plt_code.proofs.Within.{InCode, in_code, of_each}
 use Rattle.call_facts.proofs.Placed.{kind_there, byte_there, ends_there, aligned_there}
 use Rattle.call_facts.proofs.Reading.{file_word_stands, fetched_there, read_there}
-use Rattle.call_facts.specs.Calls.{IsWellPlaced}
 
 off_entry : (v i : ℕ) (q : Site) → i < 20 → RangesApart (entry_range v) q → IsOutside (v + i) q
 off_entry v i q lt (inl before) = inl (omega arith)
 off_entry v i q lt (inr after) = inr (omega arith)
 
-module _ (l : Loaded) (h : IsWellPlaced l) (m v k : ℕ) (o : Object) (live : object_at l.process m ≡ Some o) (entry : IsPltEntry o v k) (clear : IsClear o v k) where
+module _ (l : Loaded) (h : IsConsistent l) (m v k : ℕ) (o : Object) (live : object_at l.process m ≡ Some o) (entry : IsPltEntry o v k) (clear : IsClear o v k) where
   c : InCode o.segments v 20
   c = in_code o.segments v 20 entry.code
 
@@ -39,7 +39,7 @@ module _ (l : Loaded) (h : IsWellPlaced l) (m v k : ℕ) (o : Object) (live : ob
 
   to : v + 20 ≤ c.segment.vaddr + c.segment.memsz
   to =
-      let size = of_each IsSized o.segments c.place c.segment (h.consistent.modules'.standing m o live).sound.sized c.held in
+      let size = of_each IsSized o.segments c.place c.segment (h.modules'.standing m o live).sound.sized c.held in
       omega (arith, c.end, size.filled)
 
   code_there : (i : ℕ) → i < 20 → kind_at l.memory (p + i) ≡ Some Code

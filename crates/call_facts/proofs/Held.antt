@@ -12,12 +12,13 @@ use Rattle.load_model.specs.declared.words.SlotPair.{SlotPair}
 use Rattle.load_model.specs.Image.{placed}
 use Rattle.load_model.specs.Linkage.{linkage_of}
 use Rattle.load_model.specs.Process.{object_at}
+use Rattle.load_state.specs.Consistent.{IsConsistent}
 use Rattle.load_state.specs.Loaded.{Loaded, map_at, placing_of}
 use Rattle.load_state.specs.Slots.{function_or_none, slot_pair_at, slot_pair_of, slot_pairs}
 use Rattle.plt_code.specs.Entries.{IsPltEntry, IsClear}
 use Rattle.plt_code.specs.Laws.{CallStands}
 use Rattle.plt_code.proofs.Resolved.{entries_stand}
-use Rattle.call_facts.specs.Calls.{IsWellPlaced, CallsAreHeld, HoldsCall}
+use Rattle.call_facts.specs.Calls.{CallsAreHeld, HoldsCall}
 use Rattle.call_facts.proofs.Entered.{entry_below, entry_watched, word_fetched, word_read}
 use Rattle.call_facts.proofs.Slotted.{code_aligned, code_of, code_read, function, function_is, got_for, got_read, leads_back, offset_is, slot_below, slot_watched}
 
@@ -29,7 +30,7 @@ slot_listed l m k o r live slot_is =
     let at = slot_pair_at (linkage_of l.process) (placing_of l.process l.maps empty) m o in
     ap (λ (y : Option Object). slice_get (option_map_or pairs y []) k) live ∙ slice_get-map at o.jmprels k ∙ ap (option_map at) slot_is
 
-module _ (l : Loaded) (h : IsWellPlaced l) (small : l.plan.memory < 2 ^ 32) (m v k : ℕ) (o : Object) (live : object_at l.process m ≡ Some o)
+module _ (l : Loaded) (h : IsConsistent l) (small : l.plan.memory < 2 ^ 32) (m v k : ℕ) (o : Object) (live : object_at l.process m ≡ Some o)
     (entry : IsPltEntry o v k) (clear : IsClear o v k) where
   abbrev r : Rel
   r = entry.rel

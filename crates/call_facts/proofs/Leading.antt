@@ -23,11 +23,11 @@ use Rattle.load_model.specs.Image.{placed, place_of, got_of}
 use Rattle.load_model.specs.Linkage.{linkage_of}
 use Rattle.load_model.specs.Process.{object_at}
 use Rattle.load_model.specs.Sites.{function_at, is_code, refusals_of, site_value, sites_of, written}
+use Rattle.load_state.specs.Consistent.{IsConsistent}
 use Rattle.load_state.specs.Loaded.{Loaded, map_at, placing_of}
 use Rattle.load_keeps.proofs.Members.{filter_map_in, nothing_in}
 use Rattle.keep_descriptors.proofs.Own.{code_at}
 use Rattle.call_facts.proofs.Placed.{aligned_there, ends_there}
-use Rattle.call_facts.specs.Calls.{IsWellPlaced}
 
 -- ---- the value of a slot
 
@@ -92,7 +92,7 @@ pub in_object : (x : Option Object) (v : ℕ) → option_map_or (λ (o : Object)
 in_object None v is = cc
 in_object (Some o) v is = (o, refl, is)
 
-module _ (l : Loaded) (h : IsWellPlaced l) (small : l.plan.memory < 2 ^ 32) where
+module _ (l : Loaded) (h : IsConsistent l) (small : l.plan.memory < 2 ^ 32) where
   code_target : (f : Func) → is_code (linkage_of l.process) f ≡ true → IsTarget l (Some f)
   code_target f is =
       let parts = and_parts (f.value % 4 == 0) (option_map_or (λ (o : Object). is_executable_in o.segments f.value) (object_at l.process f.module) false) is in
@@ -100,7 +100,7 @@ module _ (l : Loaded) (h : IsWellPlaced l) (small : l.plan.memory < 2 ^ 32) wher
       let o = x.0 in
       let live : object_at l.process f.module ≡ Some o = x.1 in
       let at = executable_there o f.value x.2 in
-      let got = got_spanned o (h.consistent.modules'.standing f.module o live).sound in
+      let got = got_spanned o (h.modules'.standing f.module o live).sound in
       let from : at.segment.vaddr ≤ f.value = at.from in
       let to : f.value + 1 ≤ at.segment.vaddr + at.segment.memsz = at.to in
       let got_from : got.segment.vaddr ≤ o.got = got.from in

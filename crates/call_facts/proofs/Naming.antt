@@ -6,25 +6,26 @@ use Rattle.elf_model.specs.declared.object.Object.{Object}
 use Rattle.placement.specs.declared.item.Held.{Held}
 use Rattle.load_model.specs.Image.{placed}
 use Rattle.load_model.specs.Process.{object_at}
+use Rattle.load_state.specs.Consistent.{IsConsistent}
 use Rattle.load_state.specs.Loaded.{Loaded, map_at}
 use Rattle.load_keeps.proofs.Apart.{apart_two}
-use Rattle.call_facts.specs.Calls.{IsWellPlaced, GotsNameModules}
+use Rattle.call_facts.specs.Calls.{GotsNameModules}
 use Rattle.call_facts.proofs.Leading.{got_spanned}
 use Rattle.call_facts.proofs.Placed.{LiesIn, lies_there}
 
-module _ (l : Loaded) (h : IsWellPlaced l) where
+module _ (l : Loaded) (h : IsConsistent l) where
   range_of : (m a : ℕ) → LiesIn l m a → Held
   range_of m a lies = record { owner = m; start = lies.entry.addr; len = lies.entry.memsz }
 
   held_range : (m a : ℕ) (lies : LiesIn l m a) → Contains l.held (range_of m a lies)
   unfolding range_of
-  held_range m a lies = (h.consistent.ranges.held' (range_of m a lies)).1 (record { entry = lies.entry; listed = lies.listed; start' = refl; len' = refl })
+  held_range m a lies = (h.ranges.held' (range_of m a lies)).1 (record { entry = lies.entry; listed = lies.listed; start' = refl; len' = refl })
 
   not_two : (m n a : ℕ) → LiesIn l m a → LiesIn l n a → m ≢ n → ⊥
   unfolding range_of
   not_two m n a here there other =
       let apart =
-      apart_two l.held (range_of m a here) (range_of n a there) h.consistent.ranges.apart (held_range m a here) (held_range n a there) (λ is. other (ap (λ (r : Held). r.owner) is)) in
+      apart_two l.held (range_of m a here) (range_of n a there) h.ranges.apart (held_range m a here) (held_range n a there) (λ is. other (ap (λ (r : Held). r.owner) is)) in
       let above : here.entry.addr ≤ a = here.above in
       let below : a < here.entry.addr + here.entry.memsz = here.below in
       let from : there.entry.addr ≤ a = there.above in
@@ -44,7 +45,7 @@ module _ (l : Loaded) (h : IsWellPlaced l) where
 
   got_lies : (m : ℕ) (o : Object) → object_at l.process m ≡ Some o → LiesIn l m (placed (map_at l.maps m) o.got)
   got_lies m o live =
-      let got = got_spanned o (h.consistent.modules'.standing m o live).sound in
+      let got = got_spanned o (h.modules'.standing m o live).sound in
       let from : got.segment.vaddr ≤ o.got = got.from in
       let to : o.got + 12 ≤ got.segment.vaddr + got.segment.memsz = got.to in
       lies_there l h m got.index o got.segment live got.held o.got from (omega arith)

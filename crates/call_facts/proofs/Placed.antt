@@ -1,11 +1,11 @@
 -- What lies where a segment of a live module is placed.
 use Rattle.std.proofs.Common.{◌≡◌, ℕ, ◌+◌, ◌-◌, ◌%◌, ◌^◌, ◌<◌, ◌≤◌, true, List, Some, slice_get, sym, ap, subst, ◌∙◌, arith}
-use Rattle.std.specs.Int.{is_power_of_two}
-use Rattle.std.specs.Prelude.{◌==◌, ◌||◌, Contains, unwrap_or}
+use Rattle.std.specs.Prelude.{Contains, unwrap_or}
 use Rattle.fd_base.specs.declared.map.MapEntry.{MapEntry}
 use Rattle.fd_base.specs.LoadMap.{is_held_by}
 use Rattle.elf_model.specs.declared.object.Object.{Object}
 use Rattle.elf_model.specs.declared.object.Segment.{Segment}
+use Rattle.elf_model.specs.Sound.{IsSized}
 use Rattle.guest_mem.specs.Memory.{byte_at, kind_at, is_watched}
 use Rattle.load_map.proofs.Holding.{whole}
 use Rattle.load_model.specs.Image.{image_of, placed}
@@ -14,12 +14,11 @@ use Rattle.load_model.specs.Linkage.{linkage_of}
 use Rattle.load_model.specs.Plan.{high_of}
 use Rattle.load_model.specs.Process.{object_at}
 use Rattle.load_memory.proofs.Mapping.{is_in-there}
-use Rattle.load_state.specs.Consistent.{IsEntryOf, IsStanding}
+use Rattle.load_state.specs.Consistent.{IsConsistent, IsEntryOf, IsStanding}
 use Rattle.load_state.specs.Loaded.{Loaded, map_at, placing_of}
 use Rattle.keep_descriptors.proofs.Places.{contains_at, linked_apart, zip_at}
 use Rattle.plt_code.proofs.Within.{of_each}
 use Rattle.call_facts.proofs.Aligned.{unit_is_fourfold, congruent_by_four, placed_by_four}
-use Rattle.call_facts.specs.Calls.{IsWellPlaced}
 
 -- an address lies in a placed segment of module m
 pub record LiesIn (l : Loaded) (m a : ℕ) : Type 0 where
@@ -37,9 +36,9 @@ pub record LiesBy (l : Loaded) (m k v : ℕ) : Type 0 where
   pub back : entry.vaddr + (placed (map_at l.maps m) v - entry.addr) ≡ v
 
 -- segment k of live module m
-module _ (l : Loaded) (h : IsWellPlaced l) (m k : ℕ) (o : Object) (s : Segment) (live : object_at l.process m ≡ Some o) (held : slice_get o.segments k ≡ Some s) where
+module _ (l : Loaded) (h : IsConsistent l) (m k : ℕ) (o : Object) (s : Segment) (live : object_at l.process m ≡ Some o) (held : slice_get o.segments k ≡ Some s) where
   standing : IsStanding l m o
-  standing = h.consistent.modules'.standing m o live
+  standing = h.modules'.standing m o live
 
   abbrev es : List MapEntry
   es = map_at l.maps m
@@ -69,7 +68,7 @@ module _ (l : Loaded) (h : IsWellPlaced l) (m k : ℕ) (o : Object) (s : Segment
   kind_there v i from to =
       let at = place_is v i from to in
       let long : e.memsz ≡ s.memsz = of_segment.memsz' in
-      h.consistent.laid_out.segments m s e (record { object' = o; live = live; k = k; segment = held; entry = found.1 }) (placed (map_at l.maps m) v + i) (omega arith) (omega arith)
+      h.laid_out.segments m s e (record { object' = o; live = live; k = k; segment = held; entry = found.1 }) (placed (map_at l.maps m) v + i) (omega arith) (omega arith)
 
   pub byte_there : (v i : ℕ) → s.vaddr ≤ v → v + i < s.vaddr + s.memsz → is_watched l.memory (placed (map_at l.maps m) v + i) ≡ true
       → byte_at l.memory (placed (map_at l.maps m) v + i) ≡ image_of (linkage_of l.process) (placing_of l.process l.maps l.addrs) m o (v + i)
@@ -80,7 +79,7 @@ module _ (l : Loaded) (h : IsWellPlaced l) (m k : ℕ) (o : Object) (s : Segment
       let n = v + i - s.vaddr in
       let back : e.vaddr + n ≡ v + i = omega arith in
       ap (byte_at l.memory) at
-      ∙ h.consistent.images.bytes m o k e live found.1 n (omega arith) (ap (is_watched l.memory) (sym at) ∙ watched)
+      ∙ h.images.bytes m o k e live found.1 n (omega arith) (ap (is_watched l.memory) (sym at) ∙ watched)
       ∙ ap (image_of (linkage_of l.process) (placing_of l.process l.maps l.addrs) m o) back
 
   pub ends_there : (v n : ℕ) → s.vaddr ≤ v → v < s.vaddr + s.memsz → v + n ≤ s.vaddr + s.memsz → l.plan.memory < 2 ^ 32
@@ -94,7 +93,7 @@ module _ (l : Loaded) (h : IsWellPlaced l) (m k : ℕ) (o : Object) (s : Segment
   pub aligned_there : (v : ℕ) → s.vaddr ≤ v → v < s.vaddr + s.memsz → v % 4 ≡ 0 → placed (map_at l.maps m) v % 4 ≡ 0
   aligned_there v from to aligned =
       let at = placed_there v from to in
-      let four = congruent_by_four e.addr s.vaddr _ (unit_is_fourfold s.align (of_each (λ t. (t.align == 0 || is_power_of_two t.align) ≡ true) o.segments k s (h.aligned m o live) held)) of_segment.congruent in
+      let four = congruent_by_four e.addr s.vaddr _ (unit_is_fourfold s.align (of_each IsSized o.segments k s standing.sound.sized held).aligned) of_segment.congruent in
       ap (λ n. n % 4) at ∙ placed_by_four v s.vaddr e.addr from aligned four
 
   -- two addresses in one segment are as far from each other as they were
@@ -125,7 +124,7 @@ module _ (l : Loaded) (h : IsWellPlaced l) (m k : ℕ) (o : Object) (s : Segment
       let long : e.memsz ≡ s.memsz = of_segment.memsz' in
       placed_there (e.vaddr + (a - e.addr)) (omega arith) (omega arith) ∙ omega arith
 
-pub placed_back : (l : Loaded) (h : IsWellPlaced l) (m k : ℕ) (o : Object) (s : Segment) (d : MapEntry) (live : object_at l.process m ≡ Some o) (held : slice_get o.segments k ≡ Some s)
+pub placed_back : (l : Loaded) (h : IsConsistent l) (m k : ℕ) (o : Object) (s : Segment) (d : MapEntry) (live : object_at l.process m ≡ Some o) (held : slice_get o.segments k ≡ Some s)
     → slice_get (map_at l.maps m) k ≡ Some d → (a : ℕ) → d.addr ≤ a → a < d.addr + d.memsz → placed (map_at l.maps m) (d.vaddr + (a - d.addr)) ≡ a
 placed_back l h m k o s d live held at a above below =
     let both : Some (e l h m k o s live held) ≡ Some d = sym (found l h m k o s live held).1 ∙ at in

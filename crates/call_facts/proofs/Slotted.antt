@@ -23,7 +23,7 @@ use Rattle.load_model.specs.Layout.{kind_of_segment, watched_ranges}
 use Rattle.load_model.specs.Linkage.{linkage_of}
 use Rattle.load_model.specs.Process.{object_at}
 use Rattle.load_model.specs.Sites.{fixup_at, function_at, site_value, sites_of}
-use Rattle.load_state.specs.Consistent.{IsStanding}
+use Rattle.load_state.specs.Consistent.{IsConsistent, IsStanding}
 use Rattle.load_state.specs.Loaded.{Loaded, map_at, placing_of}
 use Rattle.load_keeps.proofs.Members.{contains_first, contains_later, first_or_later, map_in, nothing_in}
 use Rattle.keep_descriptors.proofs.Places.{contains_at}
@@ -33,7 +33,6 @@ use Rattle.plt_code.proofs.Within.{has_both, of_each}
 use Rattle.call_facts.proofs.Leading.{IsTarget, slot_leads, spans_means, target}
 use Rattle.call_facts.proofs.Placed.{kind_there, byte_there, ends_there, aligned_there, apart_there}
 use Rattle.call_facts.proofs.Reading.{value_stands, read_there}
-use Rattle.call_facts.specs.Calls.{IsWellPlaced}
 
 -- ---- lists
 
@@ -88,7 +87,7 @@ pair_words_are p site None = refl
 pair_words_are p site (Some g) = refl
 
 -- slot k of live module m
-module _ (l : Loaded) (h : IsWellPlaced l) (small : l.plan.memory < 2 ^ 32) (m k : ℕ) (o : Object) (r : Rel) (live : object_at l.process m ≡ Some o)
+module _ (l : Loaded) (h : IsConsistent l) (small : l.plan.memory < 2 ^ 32) (m k : ℕ) (o : Object) (r : Rel) (live : object_at l.process m ≡ Some o)
     (slot_is : slot_of o k ≡ Some r) (near : is_near o.segments r.site o.got ≡ true) where
   abbrev p : Placing
   p = placing_of l.process l.maps l.addrs
@@ -100,7 +99,7 @@ module _ (l : Loaded) (h : IsWellPlaced l) (small : l.plan.memory < 2 ^ 32) (m k
   g = placed (map_at l.maps m) o.got
 
   standing : IsStanding l m o
-  standing = h.consistent.modules'.standing m o live
+  standing = h.modules'.standing m o live
 
   there : Contains o.jmprels r
   there = contains_at o.jmprels k r slot_is
@@ -165,7 +164,7 @@ module _ (l : Loaded) (h : IsWellPlaced l) (small : l.plan.memory < 2 ^ 32) (m k
       let in_pairs = filter_in (λ (q : Rel). q.kind == R_ARM_FUNCDESC_VALUE) (sites_of o) r (slot_site o r there) passes in
       let range : Rel → ℕ × ℕ = λ q. (placed (map_at l.maps m) q.site, 8) in
       let listed : Contains (watched_ranges (map_at l.maps m) o) (x, 8) = contains_later (g, 12) (x, 8) (map range pairs) (map_in range pairs r in_pairs) in
-      h.consistent.laid_out.watched m x 8 (x + i) (record { object' = o; live = live; listed = listed }) (is_in-there x 8 (x + i) (omega arith) (omega arith))
+      h.laid_out.watched m x 8 (x + i) (record { object' = o; live = live; listed = listed }) (is_in-there x 8 (x + i) (omega arith) (omega arith))
 
   slot_byte : (i : ℕ) → i < 8 → byte_at l.memory (x + i) ≡ image_of (linkage_of l.process) p m o (r.site + i)
   slot_byte i lt = byte_there l h m both.place o both.segment live both.held r.site i site_within.0 (omega (arith, site_within.1)) (slot_watched i lt)

@@ -1,8 +1,6 @@
 -- The calls through the PLT of a live module: what stands in memory that they read (Arm FDPIC ABI, "Procedure Linkage
 -- Table").
-use Rattle.std.specs.Prelude.{◌≡◌, ℕ, ◌+◌, ◌%◌, ◌^◌, ◌<◌, ◌==◌, ◌||◌, true, Ok, Some, length, get_or, set, All, AllPairs}
-use Rattle.std.specs.Int.{is_power_of_two}
-use Rattle.load_map.specs.Whole.{PlacedApart}
+use Rattle.std.specs.Prelude.{◌≡◌, ℕ, ◌+◌, ◌%◌, ◌^◌, ◌<◌, true, Ok, Some, length, get_or, set}
 use Rattle.elf_model.specs.declared.object.Object.{Object}
 use Rattle.guest_mem.specs.Memory.{Memory, is_watched}
 use Rattle.guest_mem.specs.Kept.{Keeps}
@@ -19,13 +17,6 @@ use Rattle.load_state.specs.Consistent.{IsConsistent}
 use Rattle.load_state.specs.Loaded.{Loaded, map_at}
 use Rattle.load_state.specs.Slots.{slot_pair_of}
 use Rattle.plt_code.specs.Entries.{IsPltEntry, IsClear}
-
--- A consistent loader, the segments of whose modules are aligned to nothing or to a power of two, as the reader tests it
--- (gABI, "Program Header"), and are placed apart.
-pub record IsWellPlaced (l : Loaded) : Type 0 where
-  pub consistent : IsConsistent l
-  pub aligned : (m : ℕ) (o : Object) → object_at l.process m ≡ Some o → All (λ s. (s.align == 0 || is_power_of_two s.align) ≡ true) o.segments
-  pub apart : (m : ℕ) (o : Object) → object_at l.process m ≡ Some o → AllPairs PlacedApart (map_at l.maps m)
 
 -- A call's entry stands at p, from which the GOT leads to the slot, and the slot holds its pair. No store changes these.
 pub record HoldsCall (m : Memory) (p got : ℕ) (slot : SlotPair) : Type 0 where
@@ -47,7 +38,7 @@ pub record HoldsCall (m : Memory) (p got : ℕ) (slot : SlotPair) : Type 0 where
 pub record CallsAreHeld : Type 0 where
   pub slots : (l : Loaded) (m v k : ℕ) (o : Object) → object_at l.process m ≡ Some o → IsPltEntry o v k
       → (slot : SlotPair) × (slot_pair_of l.process l.maps m k ≡ Some slot)
-  pub held : (l : Loaded) (m v k : ℕ) (o : Object) (slot : SlotPair) → IsWellPlaced l → l.plan.memory < 2 ^ 32 → object_at l.process m ≡ Some o
+  pub held : (l : Loaded) (m v k : ℕ) (o : Object) (slot : SlotPair) → IsConsistent l → l.plan.memory < 2 ^ 32 → object_at l.process m ≡ Some o
       → IsPltEntry o v k → IsClear o v k → slot_pair_of l.process l.maps m k ≡ Some slot
       → HoldsCall l.memory (placed (map_at l.maps m) v) (placed (map_at l.maps m) o.got) slot
 
@@ -71,5 +62,5 @@ pub record CallsArrive : Type 0 where
 -- r9 names the module of a call: two live modules with one placed GOT are one
 abbrev pub GotsNameModules : Type 0
 GotsNameModules =
-    (l : Loaded) (m n : ℕ) (o q : Object) → IsWellPlaced l → object_at l.process m ≡ Some o → object_at l.process n ≡ Some q
+    (l : Loaded) (m n : ℕ) (o q : Object) → IsConsistent l → object_at l.process m ≡ Some o → object_at l.process n ≡ Some q
     → placed (map_at l.maps m) o.got ≡ placed (map_at l.maps n) q.got → m ≡ n

@@ -1,10 +1,17 @@
 -- The definitions of an accepted object, computed on small files.
-use Rattle.std.proofs.Common.{◌≡◌, ℕ, List, [], ◌∷◌, Some, None, refl}
+use Rattle.std.proofs.Common.{◌≡◌, ℕ, true, ◌||◌, ◌==◌, List, [], ◌∷◌, Some, None, refl}
+use lib.Count.{ones}
 use Rattle.std.specs.Prelude.{replicate}
+use Rattle.std.specs.Int.{is_power_of_two}
 use Rattle.elf_model.specs.declared.refusal.ElfKind.TheVariants.{Short, Ident, Header}
 use Rattle.elf_model.specs.Object.{refusal_of, object_of}
 use Rattle.elf_model.specs.Places.{file_word}
 use Rattle.elf_model.proofs.Computing.{computing}
+
+-- alignment to words
+pub word_aligned : (4 == 0 || is_power_of_two 4) ≡ true
+unfolding ones
+word_aligned = refl
 
 -- a file of no bytes
 no_bytes : refusal_of [] ≡ Some (record { kind = Short; at = 0 })

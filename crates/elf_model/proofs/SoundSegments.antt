@@ -1,5 +1,6 @@
 -- The segments of an accepted object fit and are apart.
-use Rattle.std.proofs.Common.{◌≡◌, ℕ, zero, suc, ◌+◌, ◌^◌, ◌<◌, ◌≤◌, Bool, true, false, not, cond, ◌&&◌, ◌==◌, nat_lt, nat_le, List, [], ◌∷◌, ◌++◌, length, map, None, refl, sym, subst, inl, inr, arith, All, AllPairs, append-nil, length-append, length-drop, length-take}
+use Rattle.std.proofs.Common.{◌≡◌, ℕ, zero, suc, ◌+◌, ◌^◌, ◌<◌, ◌≤◌, Bool, true, false, not, cond, ◌&&◌, ◌||◌, ◌==◌, nat_lt, nat_le, List, [], ◌∷◌, ◌++◌, length, map, None, refl, sym, subst, inl, inr, arith, All, AllPairs, append-nil, length-append, length-drop, length-take}
+use Rattle.std.specs.Int.{is_power_of_two}
 use Rattle.std.specs.List.{list_any}
 use Rattle.std.proofs.lemmas.List.{map-append}
 use Rattle.std.proofs.lemmas.List.Elements.{All-nil, All-push, All-cons}
@@ -41,6 +42,7 @@ pub record IsInRange (h : ProgramHeader) (len : ℕ) : Type 0 where
   pub file : h.offset + h.filesz ≤ len
   pub fits : h.filesz ≤ h.memsz
   pub end : h.vaddr + h.memsz < 2 ^ 32
+  pub aligned : (h.align == 0 || is_power_of_two h.align) ≡ true
 
 pub in_range : (h : ProgramHeader) (len : ℕ) → is_in_range h len ≡ true → IsInRange h len
 unfolding is_in_range
@@ -52,6 +54,7 @@ in_range h len t =
       file = leb-true (h.offset + h.filesz) len one.0;
       fits = leb-true h.filesz h.memsz two.0;
       end = ltb-true (h.vaddr + h.memsz) (2 ^ 32) three.0;
+      aligned = three.1;
     }
 
 sized_of : (bytes : List ℕ) (h : ProgramHeader) → nat_lt 0 h.memsz ≡ true → is_in_range h (length bytes) ≡ true → IsSized (segment bytes h)
@@ -61,6 +64,7 @@ sized_of bytes h some range =
       some = ltb-true 0 h.memsz some;
       end = parts.end;
       filled = simp (length-take, length-drop) (omega (arith, parts.fits));
+      aligned = parts.aligned;
     }
 
 -- a header that passes its tests after these

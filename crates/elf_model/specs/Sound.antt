@@ -1,6 +1,7 @@
 -- What holds of every accepted object, for those who place it: its segments fit and are apart, and whatever loading
 -- fills lies whole in one writable segment.
-use Rattle.std.specs.Prelude.{◌≡◌, ℕ, ◌+◌, ◌%◌, ◌^◌, ◌<◌, ◌≤◌, ◌⊎◌, true, List, length, All, AllPairs}
+use Rattle.std.specs.Prelude.{◌≡◌, ℕ, ◌+◌, ◌%◌, ◌^◌, ◌<◌, ◌≤◌, ◌⊎◌, true, ◌||◌, ◌==◌, List, length, All, AllPairs}
+use Rattle.std.specs.Int.{is_power_of_two}
 use Rattle.elf_model.specs.declared.constants.TheConstants.{MAX_SEGMENTS, MAX_ENTRIES, R_ARM_FUNCDESC_VALUE}
 use Rattle.elf_model.specs.declared.table.Site.{Site}
 use Rattle.elf_model.specs.declared.object.Object.{Object}
@@ -8,11 +9,13 @@ use Rattle.elf_model.specs.declared.object.Segment.{Segment}
 use Rattle.elf_model.specs.Places.{is_writable_in, filled_ranges}
 use Rattle.elf_model.specs.Object.{IsObject}
 
--- a segment with memory, which ends below 2^32 and has room for the file's bytes
+-- a segment with memory, which ends below 2^32, has room for the file's bytes, and is aligned to nothing or to a power of
+-- two (gABI, "Program Header")
 pub record IsSized (s : Segment) : Type 0 where
   pub some : 0 < s.memsz
   pub end : s.vaddr + s.memsz < 2 ^ 32
   pub filled : length s.filled ≤ s.memsz
+  pub aligned : (s.align == 0 || is_power_of_two s.align) ≡ true
 
 -- two segments share no link address
 abbrev pub SegmentsApart : Segment → Segment → Type 0

@@ -1,19 +1,16 @@
 -- The new modules' own descriptors can be adopted.
-use Rattle.std.proofs.Common.{◌≡◌, ◌≢◌, ℕ, ◌+◌, ◌<◌, ◌≤◌, ◌⊎◌, inl, inr, true, List, [], ◌∷◌, ◌++◌, length, get_or, map, Option, Some, None, refl, sym, ap, subst, ◌∙◌, arith, All}
+use Rattle.std.proofs.Common.{◌≡◌, ◌≢◌, ℕ, ◌+◌, ◌<◌, ◌≤◌, ◌⊎◌, inl, inr, true, List, [], ◌∷◌, length, get_or, map, Option, Some, None, refl, sym, ap, subst, ◌∙◌, arith, All}
 use Rattle.std.specs.Prelude.{Contains, AllPairs, is_some, option_map}
 use Rattle.std.specs.FinMap.{get}
 use Rattle.std.specs.List.{AllZip}
 use Rattle.std.proofs.lemmas.Bool.{false≢true}
-use Rattle.std.proofs.lemmas.List.Elements.{All-nil, All-cons, All-contains, Contains-append_left, Contains-push}
-use Rattle.std.proofs.lemmas.List.Kept.{AllPairs-cons}
+use Rattle.std.proofs.lemmas.List.Elements.{All-contains}
 use Rattle.fd_base.specs.declared.map.MapEntry.{MapEntry}
 use Rattle.elf_model.specs.declared.func.Func.{Func}
-use Rattle.elf_model.specs.declared.object.Segment.{Segment}
 use Rattle.elf_model.specs.Sound.{IsSound}
 use Rattle.func_desc.specs.Pool.{IsSlot}
 use Rattle.placement.specs.declared.item.Held.{Held}
 use Rattle.placement.specs.Legal.{Apart}
-use Rattle.placement.specs.Placed.{Placed, range_at}
 use Rattle.placement.specs.Space.{AreApart, all_held}
 use Rattle.load_map.specs.Whole.{PlacedApart}
 use Rattle.load_model.specs.declared.module.Joining.{Joining}
@@ -25,7 +22,7 @@ use Rattle.load_model.specs.Linkage.{linkage_of, members_of}
 use Rattle.load_model.specs.Plan.{low_of, high_of, listed_for}
 use Rattle.load_model.specs.Process.{live_at, object_at}
 use Rattle.load_model.specs.Sites.{Member}
-use Rattle.load_image.specs.Items.{items_of, item_of, load_map_of}
+use Rattle.load_image.specs.Items.{load_map_of}
 use Rattle.load_state.specs.Accepts.{all_items, maps_after, linkage_for}
 use Rattle.load_state.specs.Consistent.{HasRanges, IsEntryOf}
 use Rattle.load_state.specs.Loaded.{Loaded, map_at, pool_of}
@@ -34,43 +31,10 @@ use Rattle.load_keeps.proofs.Mapping.{map_stays, maps_are, IsMapped}
 use Rattle.load_keeps.proofs.Members.{none_or, first_or_later, nothing_in, in_map, in_flat_map}
 use Rattle.load_keeps.proofs.Modules.{entries, old_number}
 use Rattle.load_keeps.proofs.Ranging.{ranges_stay_lem, range_of}
+use Rattle.load_keeps.proofs.Spread.{placed_apart}
 use Rattle.keep_descriptors.specs.Laws.{AdoptionsAreFree}
 use Rattle.keep_descriptors.proofs.Own.{IsPrivate, private_means}
 use Rattle.keep_descriptors.proofs.Places.{contains_at, IsHeldAt, private_held, above_slots, one_place}
-
--- ---- placed segments
-
--- what is placed meets nothing that is held
-away : (low high : ℕ) (held : List Held) (owner : ℕ) (ss : List Segment) (listed addrs : List ℕ) (r : Held)
-    → Placed low high held (items_of owner ss listed) addrs → Contains held r → All (λ e. Apart e.addr e.memsz r) (load_map_of ss addrs)
-away low high held owner [] listed addrs r placed there = All-nil (λ e. Apart e.addr e.memsz r)
-away low high held owner (s ∷ ss) [] [] r placed there = absurd placed
-away low high held owner (s ∷ ss) [] (at ∷ addrs) r placed there =
-    All-cons (λ e. Apart e.addr e.memsz r) (record { addr = at; vaddr = s.vaddr; memsz = s.memsz }) (load_map_of ss addrs)
-    (All-contains (Apart at s.memsz) held r placed.0.legal.apart there)
-    (away low high (held ++ range_at (item_of owner s None) at ∷ []) owner ss [] addrs r placed.1 (Contains-append_left held (range_at (item_of owner s None) at ∷ []) r there))
-away low high held owner (s ∷ ss) (x ∷ listed) [] r placed there = absurd placed
-away low high held owner (s ∷ ss) (x ∷ listed) (at ∷ addrs) r placed there =
-    All-cons (λ e. Apart e.addr e.memsz r) (record { addr = at; vaddr = s.vaddr; memsz = s.memsz }) (load_map_of ss addrs)
-    (All-contains (Apart at s.memsz) held r placed.0.legal.apart there)
-    (away low high (held ++ range_at (item_of owner s (Some x)) at ∷ []) owner ss listed addrs r placed.1 (Contains-append_left held (range_at (item_of owner s (Some x)) at ∷ []) r there))
-
--- the segments of one module share no placed address
-pub placed_apart : (low high : ℕ) (held : List Held) (owner : ℕ) (ss : List Segment) (listed addrs : List ℕ)
-    → Placed low high held (items_of owner ss listed) addrs → AllPairs PlacedApart (load_map_of ss addrs)
-placed_apart low high held owner [] listed addrs placed = λ i j d lt within. absurd (omega arith)
-placed_apart low high held owner (s ∷ ss) [] [] placed = absurd placed
-placed_apart low high held owner (s ∷ ss) [] (at ∷ addrs) placed =
-    let new = range_at (item_of owner s None) at in
-    AllPairs-cons PlacedApart (record { addr = at; vaddr = s.vaddr; memsz = s.memsz }) (load_map_of ss addrs)
-    (away low high (held ++ new ∷ []) owner ss [] addrs new placed.1 (Contains-push held new))
-    (placed_apart low high (held ++ new ∷ []) owner ss [] addrs placed.1)
-placed_apart low high held owner (s ∷ ss) (x ∷ listed) [] placed = absurd placed
-placed_apart low high held owner (s ∷ ss) (x ∷ listed) (at ∷ addrs) placed =
-    let new = range_at (item_of owner s (Some x)) at in
-    AllPairs-cons PlacedApart (record { addr = at; vaddr = s.vaddr; memsz = s.memsz }) (load_map_of ss addrs)
-    (away low high (held ++ new ∷ []) owner ss listed addrs new placed.1 (Contains-push held new))
-    (placed_apart low high (held ++ new ∷ []) owner ss listed addrs placed.1)
 
 -- ranges that meet nowhere are one or apart
 one_or_apart : (held : List Held) (r q : Held) → AreApart held → Contains held r → Contains held q → (r ≡ q) ⊎ (Apart r.start r.len q ⊎ Apart q.start q.len r)

@@ -23,7 +23,7 @@ use Rattle.load_keeps.proofs.Apart.{apart_two}
 use Rattle.load_keeps.proofs.Mapping.{IsMapped, map_stays, maps_are}
 use Rattle.load_keeps.proofs.Modules.{entries, old_number}
 use Rattle.load_keeps.proofs.Ranging.{range_of, ranges_stay_lem}
-use Rattle.keep_descriptors.proofs.Adopted.{placed_apart}
+use Rattle.load_keeps.proofs.Spread.{placed_apart}
 use Rattle.keep_consistent.proofs.Kept.{placed_items}
 use Rattle.keep_consistent.proofs.Numbers.{own_numbers, unused_numbers}
 

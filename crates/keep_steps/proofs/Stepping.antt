@@ -57,7 +57,7 @@ module _ (l : Loaded) (memory : Memory) (c : IsConsistent l) (keeps : Keeps l.me
     count = c.modules'.count;
     standing = λ m o live.
         let its = c.modules'.standing m o live in
-        record { sound = its.sound; mapped = its.mapped; filled = its.filled; described = its.described };
+        record { sound = its.sound; mapped = its.mapped; apart = its.apart; filled = its.filled; described = its.described };
     others = c.modules'.others;
   }
 

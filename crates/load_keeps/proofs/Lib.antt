@@ -3,6 +3,7 @@ pub mod Members
 pub mod Ranging
 pub mod Tables
 pub mod Listed
+pub mod Spread
 pub mod Modules
 pub mod Naming
 pub mod Apart

@@ -1,5 +1,5 @@
 -- The modules after a load.
-use Rattle.std.proofs.Common.{◌≡◌, ◌≢◌, ℕ, ◌<◌, inl, inr, true, false, List, [], ◌∷◌, ◌++◌, length, get_or, take, drop, set, map, slice_get, Option, Some, None, Result, Ok, Err, refl, sym, ap, subst, ◌∙◌, All}
+use Rattle.std.proofs.Common.{◌≡◌, ◌≢◌, ℕ, ◌<◌, inl, inr, true, false, List, [], ◌∷◌, ◌++◌, length, get_or, take, drop, set, map, slice_get, Option, Some, None, Result, Ok, Err, refl, sym, ap, subst, ◌∙◌, All, AllPairs}
 use Rattle.std.specs.Prelude.{Contains, unwrap_or, ◌==◌}
 use Rattle.std.specs.FinMap.{get}
 use Rattle.std.specs.List.{AllZip, flat_map, filter_map}
@@ -16,6 +16,7 @@ use Rattle.elf_model.specs.declared.object.Segment.{Segment}
 use Rattle.elf_model.specs.Sound.{IsSound}
 use Rattle.placement.specs.declared.item.Held.{Held}
 use Rattle.placement.specs.Placed.{Placed}
+use Rattle.load_map.specs.Whole.{PlacedApart}
 use Rattle.load_model.specs.declared.error.LoadRefusal.{LoadRefusal}
 use Rattle.load_model.specs.declared.module.Joining.{Joining}
 use Rattle.load_model.specs.declared.module.Process.{Process}
@@ -39,6 +40,7 @@ use Rattle.load_keeps.specs.Laws.{ModulesStay}
 use Rattle.load_keeps.proofs.Mapping.{map_stays, maps_are, IsMapped}
 use Rattle.load_keeps.proofs.Listed.{asked_has_one}
 use Rattle.load_keeps.proofs.Ranging.{joins_or_not}
+use Rattle.load_keeps.proofs.Spread.{placed_apart}
 use Rattle.load_keeps.proofs.Members.{none_or, filter_map_in, first_or_later, nothing_in, in_map, map_in, flat_map_in}
 
 -- ---- load maps
@@ -173,6 +175,7 @@ modules_stay_lem l new joining scope addrs adopted given mods ext own free sound
           sound = had.sound;
           mapped = subst (λ (p : MemPlan). AllZip (IsEntryOf p) o.segments (map_at new.maps m)) (sym plan')
               (subst (λ (es : List MapEntry). AllZip (IsEntryOf l.plan) o.segments es) (sym (stays m (old_number l.process joining m o free was))) had.mapped);
+          apart = subst (AllPairs PlacedApart) (sym (stays m (old_number l.process joining m o free was))) had.apart;
           filled = same_refusals (linkage_of l.process) (linkage_of new.process) m o same ∙ had.filled;
           described = λ r f there is. kept f (had.described r f there (sym (same r) ∙ is));
         }
@@ -216,6 +219,8 @@ modules_stay_lem l new joining scope addrs adopted given mods ext own free sound
           sound = sound';
           mapped = subst (λ (p : MemPlan). AllZip (IsEntryOf p) j.object.segments (map_at new.maps j.number)) (sym plan')
               (subst (λ (ms : List MapEntry). AllZip (IsEntryOf l.plan) j.object.segments ms) (sym map') es);
+          apart = subst (AllPairs PlacedApart) (sym map')
+              (placed_apart (low_of l.plan) (high_of l.plan) at.held j.number j.object.segments (listed_for l.plan.places j.name) at.addrs at.placed);
           filled = subst (λ (q : Linkage). refusals_of q j.number j.object ≡ []) (sym ext.linkage') (none_refused k joining j none there);
           described = λ r f site is.
               let is' : site_value k j.number j.object r ≡ Ok (Descriptor (Some f)) = subst (λ (q : Linkage). site_value q j.number j.object r ≡ Ok (Descriptor (Some f))) ext.linkage' is in

@@ -54,6 +54,7 @@ fn segment(alloc: Global, vaddr: u32, flags: u32) -> Segment
 }
 
 /// Text at 0, and data with the GOT at 0x10000.
+#[tactic(auto, using(elf_model::proofs::Examples::word_aligned))]
 fn small_object(alloc: Global) -> Result<Object, Memory>
     ensures sound { IfOk result IsSound }
     ensures placed { IfOk result (λ o. AllZip IsPlacedBy o.segments LOAD_MAP) }

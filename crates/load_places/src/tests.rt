@@ -25,6 +25,7 @@ fn small_plan(alloc: Global) -> MemPlan
     }
 }
 
+#[tactic(auto, using(elf_model::proofs::Examples::word_aligned))]
 fn tiny_object(alloc: Global) -> Result<Object, Memory>
     ensures sound { IfOk result IsSound }
     ensures segments { IfOk result (λ o. o.segments ≡ record { vaddr = 0; memsz = 64; flags = 6; align = 4; filled = [] } ∷ []) }

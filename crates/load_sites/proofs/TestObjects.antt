@@ -22,6 +22,7 @@ use Rattle.load_model.specs.declared.module.Joining.{Joining}
 use Rattle.load_model.specs.Linkage.{joining_at}
 use Rattle.load_sites.specs.declared.linker.Linker.{Linker}
 use Rattle.load_sites.specs.Linker.{linkage, IsReady}
+use Rattle.elf_model.proofs.Examples.{word_aligned}
 use Rattle.elf_model.specs.Sound.{IsSound, IsSized, SegmentsApart, RangesApart, IsWhole, IsInPlace}
 
 abbrev pub text : List ℕ → Segment
@@ -106,7 +107,7 @@ module _ (f g : List ℕ) (few_f : length f ≤ 1024) (few_g : length g ≤ 256)
         (AllPairs-cons SegmentsApart (text f) (words g ∷ []) (All-cons (SegmentsApart (text f)) (words g) [] (inl (omega arith)) (All-nil (SegmentsApart (text f))))
         (AllPairs-cons SegmentsApart (words g) [] (All-nil (SegmentsApart (words g))) (λ i j d lt within. absurd (omega arith))));
     sized = subst (All IsSized) (sym es)
-        (both IsSized (record { some = omega arith; end = omega arith; filled = few_f }) (record { some = omega arith; end = omega arith; filled = few_g }));
+        (both IsSized (record { some = omega arith; end = omega arith; filled = few_f; aligned = word_aligned }) (record { some = omega arith; end = omega arith; filled = few_g; aligned = word_aligned }));
     in_place = subst (λ x. All (IsInPlace x) (filled_ranges o)) (sym es) (subst (All (IsInPlace ss)) (sym er) all_in_place);
     whole = subst (All (λ s. All (IsWhole s) (filled_ranges o))) (sym es) (subst (λ x. All (λ s. All (IsWhole s) x) ss) (sym er) all_whole);
     distinct = subst (AllPairs RangesApart) (sym er) all_apart;

@@ -1,5 +1,5 @@
 -- What holds of every loader: every call keeps it, and so does every step of the program.
-use Rattle.std.specs.Prelude.{◌≡◌, ◌≢◌, ◌⊎◌, ℕ, ◌+◌, ◌%◌, ◌<◌, ◌≤◌, ◌↔◌, true, [], length, slice_get, Some, None, Ok, Contains}
+use Rattle.std.specs.Prelude.{◌≡◌, ◌≢◌, ◌⊎◌, ℕ, ◌+◌, ◌%◌, ◌<◌, ◌≤◌, ◌↔◌, true, [], length, slice_get, Some, None, Ok, Contains, AllPairs}
 use Rattle.std.specs.FinMap.{get}
 use Rattle.std.specs.List.{AllZip}
 use Rattle.fd_base.specs.declared.map.MapEntry.{MapEntry}
@@ -10,6 +10,7 @@ use Rattle.elf_model.specs.declared.object.Segment.{Segment}
 use Rattle.elf_model.specs.Sound.{IsSound}
 use Rattle.func_desc.specs.Pool.{IsSlot, free_slots}
 use Rattle.guest_mem.specs.Memory.{byte_at, is_watched}
+use Rattle.load_map.specs.Whole.{PlacedApart}
 use Rattle.placement.specs.declared.item.Held.{Held}
 use Rattle.placement.specs.Legal.{unit_of}
 use Rattle.placement.specs.Space.{AreApart}
@@ -36,11 +37,12 @@ pub record IsEntryOf (plan : MemPlan) (s : Segment) (e : MapEntry) : Type 0 wher
   pub below : e.addr + e.memsz ≤ high_of plan
   pub congruent : e.addr % unit_of s.align ≡ s.vaddr % unit_of s.align
 
--- a live module: its object is one that the reader accepts, each of its segments is placed, each of its sites is filled,
--- and each function whose descriptor it refers to has one
+-- a live module: its object is one that the reader accepts, each of its segments is placed, which meet nowhere, each of its
+-- sites is filled, and each function whose descriptor it refers to has one
 pub record IsStanding (l : Loaded) (m : ℕ) (o : Object) : Type 0 where
   pub sound : IsSound o
   pub mapped : AllZip (IsEntryOf l.plan) o.segments (map_at l.maps m)
+  pub apart : AllPairs PlacedApart (map_at l.maps m)
   pub filled : refusals_of (linkage_of l.process) m o ≡ []
   pub described : (r : Rel) (f : Func) → Contains (sites_of o) r → site_value (linkage_of l.process) m o r ≡ Ok (Descriptor (Some f)) → get l.addrs f ≢ None
 

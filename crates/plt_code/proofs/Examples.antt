@@ -10,6 +10,7 @@ use Rattle.elf_model.specs.declared.table.Site.{Site}
 use Rattle.elf_model.specs.Segments.{has_flag}
 use Rattle.elf_model.specs.Places.{filled_ranges, spans, is_writable_in}
 use Rattle.elf_model.specs.Sound.{IsSound, IsSized, IsInPlace, IsWhole, RangesApart, SegmentsApart}
+use Rattle.elf_model.proofs.Examples.{word_aligned}
 use Rattle.plt_code.proofs.Within.{any_of}
 
 three : {X : Type 0} (P : X → Type 0) (x y z : X) → P x → P y → P z → All P (x ∷ y ∷ z ∷ [])
@@ -56,9 +57,9 @@ example_sound o e =
       few = rw segments (omega arith);
       apart = rw segments (three_pairs SegmentsApart high low last (inr (omega arith)) (inl (omega arith)) (inl (omega arith)));
       sized = rw segments (three IsSized high low last
-          (record { some = omega arith; end = omega arith; filled = e.few_high })
-          (record { some = omega arith; end = omega arith; filled = e.few_low })
-          (record { some = omega arith; end = omega arith; filled = e.few_data }));
+          (record { some = omega arith; end = omega arith; filled = e.few_high; aligned = word_aligned })
+          (record { some = omega arith; end = omega arith; filled = e.few_low; aligned = word_aligned })
+          (record { some = omega arith; end = omega arith; filled = e.few_data; aligned = word_aligned }));
       in_place = over (λ (ss : List Segment) (rs : List Site). All (IsInPlace ss) rs) segments ranges (three (IsInPlace (high ∷ low ∷ last ∷ [])) header first second
           (record { aligned = refl; writable = writable high low last header refl })
           (record { aligned = refl; writable = writable high low last first refl })
