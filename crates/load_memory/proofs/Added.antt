@@ -9,7 +9,7 @@ use Rattle.elf_model.specs.declared.object.Object.{Object}
 use Rattle.elf_model.specs.declared.object.Segment.{Segment}
 use Rattle.guest_mem.specs.declared.kind.MemKind.{MemKind}
 use Rattle.guest_mem.specs.declared.kind.MemKind.TheVariants.{Data}
-use Rattle.guest_mem.specs.Memory.{Memory, HaveKind, kind_at, is_marked, is_watched, is_watched_as}
+use Rattle.guest_mem.specs.Memory.{Memory, IsMemory, HaveKind, kind_at, is_marked, is_watched, is_watched_as}
 use Rattle.load_model.specs.declared.plan.MemPlan.{MemPlan}
 use Rattle.load_model.specs.Layout.{IsLaidOut, InMemory, LiesAt, WatchesAt, fixed_kind, is_in, kind_of_segment, watched_ranges}
 use Rattle.load_memory.specs.Modules.{with_module}
@@ -109,7 +109,7 @@ module _ (mods : InMemory) (number : ℕ) (o : Object) (es : List MapEntry) (new
   -- ---- the memory: as it was, with the segments mapped, and with what is watched
 
   module _ (plan : MemPlan) (old mid now : Memory) (n : ℕ) (count : n ≡ length es) (segments : AllZip IsPlacedBy o.segments es) (free : All (λ (e : MapEntry). HaveKind old e.addr e.memsz None) es)
-      (laid_out : IsLaidOut plan mods old) (mapped : AreMapped o.segments es n old mid) (watched : AreWatched (watched_ranges es o) mid now) (size : length now.bytes ≡ length old.bytes) where
+      (laid_out : IsLaidOut plan mods old) (mapped : AreMapped o.segments es n old mid) (watched : AreWatched (watched_ranges es o) mid now) (size : length now.bytes ≡ length old.bytes) (whole : IsMemory now) where
     kind_now : (a : ℕ) → kind_at now a ≡ kind_at mid a
     kind_now a = ap (λ (xs : List (Option MemKind)). get_or xs a None) watched.kinds
 
@@ -166,12 +166,26 @@ module _ (mods : InMemory) (number : ℕ) (o : Object) (es : List MapEntry) (new
         watched.others a (λ start len listed. out number start len (watches_new start len listed))
         ∙ unwatched_mid a (sym (kind_now a) ∙ data') (λ m start len watches. out m start len (watches_still m start len watches)) (in_one_or_none es a)
 
+    unmarked_mid : (a : ℕ) → kind_at mid a ≢ Some Data
+        → ((k : ℕ) × (e : MapEntry) × (slice_get es k ≡ Some e) × (is_in e.addr e.memsz a ≡ true)) ⊎ ((k : ℕ) (e : MapEntry) → slice_get es k ≡ Some e → is_in e.addr e.memsz a ≡ false) → is_marked mid a ≡ false
+    unmarked_mid a other (inl there) = let l : there.0 < length es = slice_get_within es there.0 there.1 there.2 in mapped.marks there.0 a there.1 (omega arith) there.2 there.3
+    unmarked_mid a other (inr none) =
+        let outside : IsOutside es n a = λ k e l p. none k e p in
+        mapped.other_marks a outside ∙ laid_out.unmarked a (λ data'. other (mapped.other_kinds a outside ∙ data'))
+
+    unmarked_there : (a : ℕ) → kind_at now a ≢ Some Data → is_marked now a ≡ false
+    unmarked_there a other =
+        let before : kind_at mid a ≢ Some Data = λ data'. other (kind_now a ∙ data') in
+        watched.unmarked a before ∙ unmarked_mid a before (in_one_or_none es a)
+
     pub laid_out_more : IsLaidOut plan (with_module mods number o es) now
     laid_out_more = record {
+      whole = whole;
       size = size ∙ laid_out.size;
       fixed = λ a kind h. kind_kept a kind (laid_out.fixed a kind h);
       segments = λ m s e lies. segments_there m s e (lies_cases m s e lies);
       rest = rest_there;
       watched = λ m start len a watches h. watched_there m start len a (watches_cases m start len watches) h;
       unwatched = unwatched_there;
+      unmarked = unmarked_there;
     }

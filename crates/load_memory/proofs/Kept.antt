@@ -1,5 +1,5 @@
 -- The layout of memory through what changes it, and where modules may lie.
-use Rattle.std.proofs.Common.{◌≡◌, ◌≢◌, inl, inr, ℕ, ◌+◌, ◌-◌, ◌<◌, ◌≤◌, true, false, cond, List, [], ◌∷◌, Option, Some, None, length, get_or, ap, sym, subst, ◌∙◌, arith}
+use Rattle.std.proofs.Common.{◌≡◌, ◌≢◌, inl, inr, ℕ, ◌+◌, ◌-◌, ◌<◌, ◌≤◌, Bool, true, false, cond, List, [], ◌∷◌, Option, Some, None, length, get_or, ap, sym, subst, ◌∙◌, arith}
 use Rattle.std.specs.Prelude.{All, slice_get, Contains}
 use Rattle.std.proofs.lemmas.List.Elements.{All-weaker}
 use Rattle.fd_base.specs.declared.map.MapEntry.{MapEntry}
@@ -58,12 +58,14 @@ module _ (mods others : InMemory) (objects : (m : ℕ) → others.objects m ≡ 
 
   agree : (plan : MemPlan) (memory : Memory) → IsLaidOut plan mods memory → IsLaidOut plan others memory
   agree plan memory h = record {
+    whole = h.whole;
     size = h.size;
     fixed = h.fixed;
     segments = λ m s e lies. h.segments m s e (lies_alike m s e lies);
     rest = λ a none out. h.rest a none (λ m s e lies. out m s e (lies_back m s e lies));
     watched = λ m start len a watches l. h.watched m start len a (watches_alike m start len watches) l;
     unwatched = λ a data' out. h.unwatched a data' (λ m start len watches. out m start len (watches_back m start len watches));
+    unmarked = h.unmarked;
   }
 
 pub layouts_agree : (plan : MemPlan) (mods others : InMemory) (memory : Memory) → ((m : ℕ) → others.objects m ≡ mods.objects m) → ((m : ℕ) → others.maps m ≡ mods.maps m) → IsLaidOut plan mods memory
@@ -77,12 +79,14 @@ laid_out_alike plan mods old new same h =
     let kinds : (a : ℕ) → kind_at new a ≡ kind_at old a = λ a. ap (λ (xs : List (Option MemKind)). get_or xs a None) same.kinds in
     let watched : (a : ℕ) → is_watched new a ≡ is_watched old a = λ a. is_watched-same old new a same.kinds same.marks in
     record {
+      whole = record { kinds = ap length same.kinds ∙ h.whole.kinds ∙ sym same.size; marks = ap length same.marks ∙ h.whole.marks ∙ sym same.size; size = rw same.size h.whole.size };
       size = same.size ∙ h.size;
       fixed = λ a kind f. kinds a ∙ h.fixed a kind f;
       segments = λ m s e lies a l l'. kinds a ∙ h.segments m s e lies a l l';
       rest = λ a none out. kinds a ∙ h.rest a none out;
       watched = λ m start len a watches l. watched a ∙ h.watched m start len a watches l;
       unwatched = λ a data' out. watched a ∙ h.unwatched a (sym (kinds a) ∙ data') out;
+      unmarked = λ a other. ap (λ (xs : List Bool). get_or xs a false) same.marks ∙ h.unmarked a (λ data'. other (kinds a ∙ data'));
     }
 
 pub laid_out_pair : (plan : MemPlan) (mods : InMemory) (old : Memory) (addr code got : ℕ) → IsLaidOut plan mods old → IsLaidOut plan mods (with_bytes old addr (bytes_of_words (code ∷ got ∷ [])))

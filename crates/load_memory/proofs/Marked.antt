@@ -1,5 +1,5 @@
 -- Ranges that are watched, one after another.
-use Rattle.std.proofs.Common.{◌≡◌, ◌⊎◌, inl, inr, ℕ, zero, suc, ◌+◌, ◌<◌, ◌≤◌, true, List, [], ◌∷◌, ◌++◌, Some, length, refl, ap, sym, subst, ◌∙◌, arith}
+use Rattle.std.proofs.Common.{◌≡◌, ◌⊎◌, inl, inr, ℕ, zero, suc, ◌+◌, ◌<◌, ◌≤◌, true, false, List, [], ◌∷◌, ◌++◌, Option, Some, None, length, get_or, refl, ap, sym, subst, ◌∙◌, arith}
 use Rattle.std.specs.Prelude.{◌==◌, Contains, map, filter, unwrap_or}
 use Rattle.std.proofs.lemmas.List.{map-append, append-nil}
 use Rattle.std.proofs.lemmas.List.Elements.{Contains-append_left, Contains-append_right, Contains-append_cases, filter-append}
@@ -7,9 +7,11 @@ use Rattle.fd_base.specs.declared.map.MapEntry.{MapEntry}
 use Rattle.elf_model.specs.declared.constants.TheConstants.{R_ARM_FUNCDESC_VALUE}
 use Rattle.elf_model.specs.declared.object.Object.{Object}
 use Rattle.elf_model.specs.declared.object.Rel.{Rel}
+use Rattle.guest_mem.specs.declared.kind.MemKind.{MemKind}
 use Rattle.guest_mem.specs.declared.kind.MemKind.TheVariants.{Data}
-use Rattle.guest_mem.specs.Memory.{Memory, IsMemory, HaveKind, is_watched}
+use Rattle.guest_mem.specs.Memory.{Memory, IsMemory, HaveKind, is_marked, is_watched}
 use Rattle.guest_mem.specs.Ranges.{with_marks}
+use Rattle.guest_mem.proofs.Pasted.{get_or-filled_other}
 use Rattle.guest_mem.proofs.Writing.{outside}
 use Rattle.guest_mem.proofs.Ranged.{is_watched-with_marks_there, is_watched-with_marks_other}
 use Rattle.load_model.specs.Image.{placed}
@@ -34,6 +36,7 @@ AreWatched-append xs ys a b c first second = record {
   others = λ k out.
       second.others k (λ start len listed. out start len (Contains-append_right xs ys (start, len) listed))
       ∙ first.others k (λ start len listed. out start len (Contains-append_left xs ys (start, len) listed));
+  unmarked = λ k other. second.unmarked k (λ data'. other (sym (ap (λ (kinds : List (Option MemKind)). get_or kinds k None) first.kinds) ∙ data')) ∙ first.unmarked k other;
 }
 
 -- one range of Data
@@ -57,6 +60,10 @@ module _ (m n : Memory) (start len : ℕ) (inside : start + len ≤ length m.byt
       | inr out ↦ other a out ∙ h
     ];
     others = λ a out. other a (is_in-not start len a (out start len (zero, (omega arith), refl)));
+    unmarked = λ a not_data. elim (outside start len a) [
+      | inl p ↦ absurd (not_data (data' a p.0 p.1))
+      | inr out ↦ ap (λ (x : Memory). is_marked x a) put ∙ get_or-filled_other m.marks start len a true false out
+    ];
   }
     where
       is_there : (a : ℕ) → start ≤ a → a < start + len → is_watched n a ≡ true

@@ -56,5 +56,6 @@ pub fn new_memory(alloc: Global, plan: &MemPlan) -> Result<Guest, Memory>
     let mut guest = Guest::new(alloc, plan.memory)?;
     map_fixed(&mut guest, plan);
     put_stubs(&mut guest);
+    guest.whole();
     Ok(guest)
 }

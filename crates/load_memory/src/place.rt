@@ -51,4 +51,5 @@ pub fn put_module(
     write_parts(guest, load_map, parts);
     put_load_map(guest, number, load_map);
     watch_ranges(guest, object, load_map);
+    guest.whole();
 }

@@ -1,6 +1,6 @@
 -- Where things lie in the memory of a process, and what no store changes. The parts of the memory are this loader's own;
 -- that each segment of a module is placed by itself is the FDPIC ABI's ("Load maps").
-use Rattle.std.specs.Prelude.{◌≡◌, ℕ, ◌+◌, ◌-◌, ◌*◌, ◌<◌, Bool, true, false, ◌&&◌, ◌==◌, nat_le, nat_lt, List, [], ◌∷◌, length, map, filter, slice_index, slice_get, Option, Some, None, Contains, if◌then◌else◌}
+use Rattle.std.specs.Prelude.{◌≡◌, ◌≢◌, ℕ, ◌+◌, ◌-◌, ◌*◌, ◌<◌, Bool, true, false, ◌&&◌, ◌==◌, nat_le, nat_lt, List, [], ◌∷◌, length, map, filter, slice_index, slice_get, Option, Some, None, Contains, if◌then◌else◌}
 use Rattle.std.specs.List.{flat_map}
 use Rattle.std.specs.Int.{w32, to_le_bytes}
 use Rattle.fd_base.specs.declared.map.MapEntry.{MapEntry}
@@ -10,7 +10,7 @@ use Rattle.elf_model.specs.declared.object.Segment.{Segment}
 use Rattle.elf_model.specs.Segments.{has_flag}
 use Rattle.guest_mem.specs.declared.kind.MemKind.{MemKind}
 use Rattle.guest_mem.specs.declared.kind.MemKind.TheVariants.{Code, Data, Fixed}
-use Rattle.guest_mem.specs.Memory.{Memory, HaveKind, byte_at, kind_at, is_watched}
+use Rattle.guest_mem.specs.Memory.{Memory, IsMemory, HaveKind, byte_at, kind_at, is_marked, is_watched}
 use Rattle.load_map.specs.Image as map_image
 use Rattle.load_model.specs.declared.layout.TheConstants.{RESOLVER, STUBS_END, LOAD_MAPS, LOAD_MAP_SIZE}
 use Rattle.load_model.specs.declared.plan.MemPlan.{MemPlan}
@@ -67,8 +67,10 @@ pub record WatchesAt (mods : InMemory) (m start len : ℕ) : Type 0 where
   pub live : mods.objects m ≡ Some object'
   pub listed : Contains (watched_ranges (mods.maps m) object') (start, len)
 
--- Each address is mapped as what lies there, and watched where something lies there that no store may change.
+-- Each address is mapped as what lies there, and watched where something lies there that no store may change. Marks stand
+-- where Data is watched, and nowhere else.
 pub record IsLaidOut (plan : MemPlan) (mods : InMemory) (memory : Memory) : Type 0 where
+  pub whole : IsMemory memory
   pub size : length memory.bytes ≡ plan.memory
   pub fixed : (a : ℕ) (kind : MemKind) → fixed_kind plan a ≡ Some kind → kind_at memory a ≡ Some kind
   pub segments : (m : ℕ) (s : Segment) (e : MapEntry) → LiesAt mods m s e → HaveKind memory e.addr e.memsz (Some (kind_of_segment s))
@@ -77,6 +79,7 @@ pub record IsLaidOut (plan : MemPlan) (mods : InMemory) (memory : Memory) : Type
   pub watched : (m start len a : ℕ) → WatchesAt mods m start len → is_in start len a ≡ true → is_watched memory a ≡ true
   pub unwatched : (a : ℕ) → kind_at memory a ≡ Some Data
       → ((m start len : ℕ) → WatchesAt mods m start len → is_in start len a ≡ false) → is_watched memory a ≡ false
+  pub unmarked : (a : ℕ) → kind_at memory a ≢ Some Data → is_marked memory a ≡ false
 
 -- ---- tables
 

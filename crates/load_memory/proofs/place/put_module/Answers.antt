@@ -5,7 +5,7 @@ use Rattle.elf_model.specs.declared.object.Segment.{Segment}
 use Rattle.load_memory.specs.Placing.{AreMapped}
 use Rattle.load_memory.proofs.Added.{laid_out_more}
 use Rattle.load_memory.proofs.Outside.{kind_outside, watch_outside}
-use Rattle.load_memory.proofs.Steps.{entries_count, entries_few, entries_end, mapped_still, size_still, watchable_got, watchable_rels, watchable_slots, parts_now, rest_now}
+use Rattle.load_memory.proofs.Steps.{entries_count, entries_few, entries_end, mapped_still, watchable_got, watchable_rels, watchable_slots, parts_now, rest_now}
 use Rattle.load_memory.proofs.place.put_module.Goals as goal
 
 pub map_segments-requires-clause-count : goal.map_segments-requires-clause-count
@@ -42,7 +42,7 @@ returns-clause-layout c = λ plan mods new laid_out.
     (subst (λ (ss : List Segment). AreMapped ss c.args.load_map.now (length c.args.load_map.now) c.args.guest.now c.map_segments.new.guest) c.as_slice.ensures c.map_segments.ensures.mapped)
     c.map_segments.ensures.bytes c.write_parts.ensures.map c.put_load_map.ensures.map in
     laid_out_more mods c.args.number c.args.object.now c.args.load_map.now new plan c.args.guest.now c.put_load_map.new.guest c.watch_ranges.new.guest (length c.args.load_map.now) refl c.requires.segments c.requires.free laid_out mapped
-    c.watch_ranges.ensures (ap length c.watch_ranges.ensures.bytes ∙ c.put_load_map.ensures.map.size ∙ c.write_parts.ensures.map.size ∙ ap length c.map_segments.ensures.bytes)
+    c.watch_ranges.ensures (ap length c.watch_ranges.ensures.bytes ∙ c.put_load_map.ensures.map.size ∙ c.write_parts.ensures.map.size ∙ ap length c.map_segments.ensures.bytes) c.whole-2.ensures.whole
 
 pub returns-clause-bytes : goal.returns-clause-bytes
 returns-clause-bytes c =
