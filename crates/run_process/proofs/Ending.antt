@@ -24,6 +24,7 @@ is_course job l p b = ap (λ (q : Running). course_from q job) b.begins
 of_start : (job : Job) (files : Option Files) (p : Running) → IsStarted job files p → IfSome files (λ told. IsRun job told (course_from p job))
 of_start job None p h = tt
 of_start job (Some told) p h = record {
+  eager = h.eager;
   loaded = p.state.loaded;
   entry = h.begins.entry;
   loads = h.loads;

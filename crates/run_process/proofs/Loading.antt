@@ -1,93 +1,28 @@
 -- The load of a program, from what the loader's calls answer.
-use Rattle.std.proofs.Common.{◌≡◌, ℕ, ◌-◌, List, Bool, true, false, Option, Some, None, IfSome, sym, ap, subst, ◌∙◌, inl, inr, refl}
-use Rattle.fd_base.specs.declared.map.MapEntry.{MapEntry}
+use Rattle.std.proofs.Common.{◌≡◌, ℕ, ◌-◌, List, Bool, true, false, Option, Some, None, IfSome, sym, ap, subst, inl, inr, refl}
 use Rattle.fd_base.specs.Fetched.{Files}
-use Rattle.func_desc.specs.Functions.{AddrMap}
-use Rattle.guest_mem.specs.Memory.{Memory, byte_at}
-use Rattle.placement.specs.declared.item.Held.{Held}
+use Rattle.guest_mem.specs.Memory.{byte_at}
 use Rattle.load_model.specs.declared.error.LoadErr.{LoadErr}
 use Rattle.load_model.specs.declared.error.LoadErr.TheVariants.{Refused, StoreFault, Memory as Lacks}
 use Rattle.load_model.specs.declared.error.LoadRefusal.{LoadRefusal}
-use Rattle.load_model.specs.declared.error.LoadRefusal.TheVariants.{NotBuilt, Elf, NoFile, TooLong, TooManyModules, Unresolved, NotCode, DescriptorsFull, NoRoom, BadAddress}
+use Rattle.load_model.specs.declared.error.LoadRefusal.TheVariants.{NotBuilt, NotCode}
 use Rattle.load_model.specs.declared.layout.TheConstants.{RESOLVER, STUBS_END}
-use Rattle.load_model.specs.declared.module.Joining.{Joining}
-use Rattle.load_model.specs.declared.module.Process.{Process}
 use Rattle.load_model.specs.declared.plan.MemPlan.{MemPlan}
 use Rattle.load_model.specs.Explains.{Explains}
 use Rattle.load_model.specs.Layout.{is_in}
+use Rattle.load_laws.proofs.Starting.{refused_at_start}
 use Rattle.load_state.specs.declared.plan.GroupPlan.{GroupPlan}
-use Rattle.load_state.specs.Accepts.{IsPlan, Linked}
+use Rattle.load_state.specs.Accepts.{IsPlan}
 use Rattle.load_state.specs.Committed.{IsCommitted}
 use Rattle.load_state.specs.Consistent.{IsConsistent}
 use Rattle.load_state.specs.Loaded.{Loaded}
-use Rattle.load_state.specs.Loading.{IsStart, start_of}
-use Rattle.load_state.specs.Refused.{IsRefused, HasRefusedSite, HasNoSlots, HasNoPlace}
+use Rattle.load_state.specs.Loading.{IsStart}
+use Rattle.load_state.specs.Refused.{IsRefused}
 use Rattle.proc_run.specs.declared.job.Job.{Job}
 use Rattle.run_model.specs.Places.{entry_point}
 use Rattle.run_process.specs.Loads.{ExplainsStart, IsCause, IsRefusedAs, LoadsProgram}
 
--- ---- loads don't read the memory
-
-module _ (l : Loaded) (memory : Memory) (files : Option Files) (root : List ℕ) where
-  abbrev over : Loaded
-  over = record l { memory = memory }
-
-  linked : (joining : List Joining) (scope : List ℕ) → Linked l files root joining scope → Linked over files root joining scope
-  linked joining scope h = record { names = h.names; walk = h.walk; scope' = h.scope' }
-
-  site_over : (r : LoadRefusal) → HasRefusedSite l files root r → HasRefusedSite over files root r
-  site_over r h = record { joining = h.joining; scope = h.scope; linked = linked h.joining h.scope h.linked; first = h.first }
-
-  slots_over : (n : ℕ) → HasNoSlots l files root n → HasNoSlots over files root n
-  slots_over n h = record {
-    joining = h.joining;
-    scope = h.scope;
-    linked = linked h.joining h.scope h.linked;
-    filled = h.filled;
-    free = h.free;
-    more = h.more;
-  }
-
-  place_over : (i : ℕ) → HasNoPlace l files root i → HasNoPlace over files root i
-  place_over i h = record {
-    joining = h.joining;
-    scope = h.scope;
-    linked = linked h.joining h.scope h.linked;
-    filled = h.filled;
-    enough = h.enough;
-    fails = h.fails;
-  }
-
-  refused_over : (r : LoadRefusal) → IsRefused l files root r → IsRefused over files root r
-  refused_over TooManyModules h = h
-  refused_over (TooLong n) h = h
-  refused_over (NoFile n) h = h
-  refused_over (Elf n r) h = h
-  refused_over (Unresolved m n) h = site_over (Unresolved m n) h
-  refused_over (NotCode m n) h = site_over (NotCode m n) h
-  refused_over (BadAddress m site) h = site_over (BadAddress m site) h
-  refused_over (DescriptorsFull n) h = slots_over n h
-  refused_over (NoRoom i) h = place_over i h
-  refused_over (NotBuilt n) h = absurd h
-
 -- ---- the first load
-
-abbrev made : MemPlan → Process → List (List MapEntry) → List Held → AddrMap → Memory → Loaded
-made plan process maps held addrs memory = record { plan = plan; process = process; maps = maps; held = held; addrs = addrs; memory = memory }
-
--- what has loaded nothing is the same but for the memory
-start_is : (plan : MemPlan) (l : Loaded) → IsStart plan l → record l { memory = (start_of plan).memory } ≡ start_of plan
-start_is plan l s =
-    let none = start_of plan in
-    ap (λ p. made p l.process l.maps l.held l.addrs none.memory) s.plan'
-    ∙ ap (λ p. made plan p l.maps l.held l.addrs none.memory) s.process'
-    ∙ ap (λ maps. made plan none.process maps l.held l.addrs none.memory) s.maps'
-    ∙ ap (λ held. made plan none.process none.maps held l.addrs none.memory) s.held'
-    ∙ ap (λ addrs. made plan none.process none.maps none.held addrs none.memory) s.addrs'
-
-refused_at_start : (plan : MemPlan) (l : Loaded) (files : Option Files) (root : List ℕ) (r : LoadRefusal) → IsStart plan l
-    → IsRefused l files root r → IsRefused (start_of plan) files root r
-refused_at_start plan l files root r s h = subst (λ x. IsRefused x files root r) (start_is plan l s) (refused_over l (start_of plan).memory files root r h)
 
 -- what the first load comes to
 pub loads : (files : Option Files) (plan : MemPlan) (name : List ℕ) (start mid new : Loaded) (g : GroupPlan) → IsStart plan start → IsConsistent start

@@ -1,5 +1,5 @@
 -- How the run of a job ends.
-use Rattle.std.specs.Prelude.{◌≡◌, ◌⊎◌, ℕ, List, Option, Some, IfSome}
+use Rattle.std.specs.Prelude.{◌≡◌, ◌⊎◌, ℕ, false, List, Option, Some, IfSome}
 use Rattle.fd_base.specs.Faults.{Rose}
 use Rattle.fd_base.specs.Fetched.{Files}
 use Rattle.fd_base.specs.Grown.{Grew, GrewByPart}
@@ -16,8 +16,9 @@ use Rattle.run_process.specs.declared.end.RunEnd.TheVariants.{Ended, Stopped, Re
 use Rattle.run_process.specs.Loads.{IsProgramLoaded, IsStartRefused}
 use Rattle.run_process.specs.Parts.{schedule_of}
 
--- the course of a job's run
+-- the course of a job whose slots are bound when it is loaded
 pub record IsRun (job : Job) (told : Files) (c : Course) : Type 0 where
+  pub eager : job.lazy ≡ false
   pub loaded : Loaded
   pub entry : ℕ
   pub loads : IsProgramLoaded job.plan told job.program loaded
