@@ -2,6 +2,8 @@
 
 ghost use Rattle.std.specs.Prelude.{◌≡◌, ◌++◌, IfOk, OnOk, All, filter, map, not};
 ghost use Rattle.std.specs.List.{flat_map};
+ghost use Rattle.a32_machine.specs.Registers.{pc_of};
+ghost use Rattle.run_model.specs.Places as places;
 ghost use Rattle.run_model.specs.Turns as spec;
 ghost use Rattle.run_places.specs.Placed.{ArePlaced};
 ghost use Rattle.run_turn.specs.Progress.{IsInProgress};
@@ -83,6 +85,34 @@ fn put_arrivals(
     Ok(())
 }
 
+/// Moves the calls of a thread on by one more step of it: those that arrive have their events. Where it has none, nothing
+/// is looked up.
+fn advance(
+    alloc: Global,
+    process: &Process,
+    maps: &[LoadMap],
+    step: u32,
+    number: u32,
+    thread: &mut Thread,
+    events: &mut Events,
+) -> Result<(), Memory>
+    requires placed { ArePlaced process.now maps.now }
+    requires calls { All IsInProgress thread.old.calls }
+    ensures thread { OnOk result (thread.new ≡ record thread.old { calls = filter (λ call. not (spec.is_complete call)) (map spec.advanced thread.old.calls) }) }
+    ensures events { OnOk result (events.new ≡ events.old
+        ++ flat_map (λ call. spec.arrival step number (places.code_at process.entry.now maps.now (pc_of thread.old.cpu)))
+        (filter spec.is_complete (map spec.advanced thread.old.calls))) }
+    ensures calls { OnOk result (All IsInProgress thread.new.calls) }
+{
+    if thread.calls.as_slice().is_empty() {
+        return Ok(());
+    }
+    let place = code_at(process, maps, thread.cpu.r[15]);
+    put_arrivals(events, step, number, &place, thread.calls.as_slice())?;
+    thread.calls = going_on(alloc, thread.calls.as_slice())?;
+    Ok(())
+}
+
 /// Moves the calls of a thread on after a step that is the `step`-th of the run: those that arrive have their events,
 /// and so has the one that begins where the thread stands now.
 pub fn follow(
@@ -100,9 +130,7 @@ pub fn follow(
     ensures events { OnOk result (events.new ≡ events.old ++ spec.call_events process.entry.now maps.now step number thread.old) }
     ensures calls { OnOk result (All IsInProgress thread.new.calls) }
 {
-    let place = code_at(process, maps, thread.cpu.r[15]);
-    put_arrivals(events, step, number, &place, thread.calls.as_slice())?;
-    let mut calls = going_on(alloc, thread.calls.as_slice())?;
+    advance(alloc, process, maps, step, number, thread, events)?;
     if let Some(call) = call_begun(process, maps, &thread.cpu) {
         events.push(Event::Enter {
             step,
@@ -110,8 +138,7 @@ pub fn follow(
             number: call.number,
             slot: call.slot,
         })?;
-        calls.push(call)?;
+        thread.calls.push(call)?;
     }
-    thread.calls = calls;
     Ok(())
 }
