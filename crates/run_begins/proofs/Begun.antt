@@ -16,6 +16,7 @@ use Rattle.a32_machine.specs.Registers.{pc_of}
 use Rattle.load_model.specs.declared.words.SlotPair.{SlotPair}
 use Rattle.load_model.specs.Image.{placed}
 use Rattle.load_model.specs.Process.{object_at}
+use Rattle.load_state.specs.Consistent.{IsConsistent}
 use Rattle.load_state.specs.Loaded.{Loaded, map_at}
 use Rattle.plt_code.specs.Entries.{IsPltEntry, IsClear, minus}
 use Rattle.plt_code.specs.Standing.{is_code, is_near, stand_at}
@@ -24,7 +25,7 @@ use Rattle.run_model.specs.declared.thread.Call.{Call}
 use Rattle.run_model.specs.declared.thread.TheConstants.{BOUND_CALL}
 use Rattle.run_model.specs.Places.{call_begun, call_in, call_through, code_at, got_at, is_call, is_entry_of, slot_entered}
 use Rattle.run_calls.specs.Calls.{Holds, Stays}
-use Rattle.call_facts.specs.Calls.{IsWellPlaced, HoldsCall}
+use Rattle.call_facts.specs.Calls.{HoldsCall}
 use Rattle.call_facts.proofs.Held.{calls_are_held_lem}
 use Rattle.run_begins.specs.Begun.{BegunCallsHold, IsHeldCall, bound_call}
 use Rattle.run_begins.proofs.Coded.{coded_by, placed_at_code}
@@ -81,15 +82,15 @@ holds_bound m p got slot h =
 -- ---- a call that begins
 
 -- what a call begins with
-record IsBegun (l : Loaded) (cpu : Cpu) (call : Call) : Type 0 where
-  function : Func
-  at : code_at l.process l.maps (pc_of cpu) ≡ Some function
-  object' : Object
-  live : object_at l.process function.module ≡ Some object'
-  slot : ℕ
-  enters : slot_entered object' function.value ≡ Some slot
-  got : (get_or cpu.r 9 0 == got_at l.process l.maps function.module) ≡ true
-  call' : call ≡ record { number = function.module; slot = slot; length = BOUND_CALL; done = 0; begin = cpu }
+pub record IsBegun (l : Loaded) (cpu : Cpu) (call : Call) : Type 0 where
+  pub function : Func
+  pub at : code_at l.process l.maps (pc_of cpu) ≡ Some function
+  pub object' : Object
+  pub live : object_at l.process function.module ≡ Some object'
+  pub slot : ℕ
+  pub enters : slot_entered object' function.value ≡ Some slot
+  pub got : (get_or cpu.r 9 0 == got_at l.process l.maps function.module) ≡ true
+  pub call' : call ≡ record { number = function.module; slot = slot; length = BOUND_CALL; done = 0; begin = cpu }
 
 some_then : {X Y : Type 0} (g : X → Option Y) (x : Option X) (y : Y) → option_and_then g x ≡ Some y → (z : X) × (x ≡ Some z) × (g z ≡ Some y)
 some_then g None y is = absurd cc
@@ -105,7 +106,7 @@ through l cpu m k call is = by (get_or cpu.r 9 0 == got_at l.process l.maps m) r
     by true e is = (e, cc)
     by false e is = absurd cc
 
-begun : (l : Loaded) (cpu : Cpu) (call : Call) → call_begun l.process l.maps cpu ≡ Some call → IsBegun l cpu call
+pub begun : (l : Loaded) (cpu : Cpu) (call : Call) → call_begun l.process l.maps cpu ≡ Some call → IsBegun l cpu call
 begun l cpu call is =
     let f = some_then (call_in l.process l.maps cpu) (code_at l.process l.maps (pc_of cpu)) call is in
     let k =
@@ -114,7 +115,7 @@ begun l cpu call is =
     let both = through l cpu (f.0).module k.0 call k.2 in
     record { function = f.0; at = f.1; object' = o.0; live = o.1; slot = k.0; enters = o.2; got = both.0; call' = both.1 }
 
-module _ (l : Loaded) (cpu : Cpu) (h : IsWellPlaced l) (small : l.plan.memory < 2 ^ 32) (registers : length cpu.r ≡ 16) where
+module _ (l : Loaded) (cpu : Cpu) (h : IsConsistent l) (small : l.plan.memory < 2 ^ 32) (registers : length cpu.r ≡ 16) where
   held_begun : (call : Call) (b : IsBegun l cpu call) → IsClear b.object' b.function.value b.slot
       → IsHeldCall l cpu (record { number = b.function.module; slot = b.slot; length = BOUND_CALL; done = 0; begin = cpu })
   held_begun call b clear =

@@ -14,11 +14,11 @@ use Rattle.load_model.specs.declared.module.Live.{Live}
 use Rattle.load_model.specs.Image.{placed}
 use Rattle.load_model.specs.Layout.{is_in}
 use Rattle.load_model.specs.Process.{object_at}
+use Rattle.load_state.specs.Consistent.{IsConsistent}
 use Rattle.load_state.specs.Loaded.{Loaded, map_at}
 use Rattle.load_keeps.proofs.Apart.{inside}
 use Rattle.run_model.specs.Places.{code_among, code_at, code_in, is_code_of, link_of}
 use Rattle.call_facts.proofs.Placed.{placed_back}
-use Rattle.call_facts.specs.Calls.{IsWellPlaced}
 
 -- ---- lists
 
@@ -118,7 +118,7 @@ coded_by l a f is =
     ap (λ (x : Option (Option Live)). option_map (λ (y : Live). y.object) (option_and_then (λ (place : Option Live). place) x)) at.there in
     in_module l a at.index f at.live.object live (subst (λ (n : ℕ). code_in a n at.live.object (map_at l.maps n) ≡ Some f) zero' at.coded)
 
-pub placed_at_code : (l : Loaded) (h : IsWellPlaced l) (a : ℕ) (f : Func) → IsCodedBy l a f → placed (map_at l.maps f.module) f.value ≡ a
+pub placed_at_code : (l : Loaded) (h : IsConsistent l) (a : ℕ) (f : Func) → IsCodedBy l a f → placed (map_at l.maps f.module) f.value ≡ a
 placed_at_code l h a f by =
     ap (placed (map_at l.maps f.module)) by.value'
     ∙ placed_back l h f.module by.pair.index by.object' by.segment by.entry by.live by.pair.left by.pair.right a by.above by.below

@@ -24,7 +24,7 @@ use Rattle.load_model.specs.Layout.{is_in}
 use Rattle.load_model.specs.Linkage.{linkage_of}
 use Rattle.load_model.specs.Process.{object_at}
 use Rattle.load_model.specs.Sites.{function_at, is_code}
-use Rattle.load_state.specs.Consistent.{IsEntryOf}
+use Rattle.load_state.specs.Consistent.{IsConsistent, IsEntryOf}
 use Rattle.load_state.specs.Loaded.{Loaded, map_at, placing_of}
 use Rattle.load_state.specs.Slots.{function_or_none, slot_function, slot_pair_at}
 use Rattle.load_keeps.proofs.Apart.{is_inside, zip_get}
@@ -37,7 +37,6 @@ use Rattle.call_facts.proofs.Placed.{LiesIn, LiesBy, lies_by}
 use Rattle.run_model.specs.Places.{code_among, code_at, code_in, is_code_of, link_of}
 use Rattle.run_begins.specs.Leads.{IsSlotOf, SlotsLeadToCode}
 use Rattle.run_begins.proofs.Coded.{coded_by}
-use Rattle.call_facts.specs.Calls.{IsWellPlaced}
 
 -- ---- what is found
 
@@ -113,7 +112,7 @@ one_entry es i j a d e apart p q low high from to =
     meets x y (inl before) low high from to = absurd (omega arith)
     meets x y (inr after) low high from to = absurd (omega arith)
 
-module _ (l : Loaded) (h : IsWellPlaced l) (f : Func) (o : Object) (live : object_at l.process f.module ≡ Some o) (executable : is_executable_in o.segments f.value ≡ true) where
+module _ (l : Loaded) (h : IsConsistent l) (f : Func) (o : Object) (live : object_at l.process f.module ≡ Some o) (executable : is_executable_in o.segments f.value ≡ true) where
   abbrev a : ℕ
   a = placed (map_at l.maps f.module) f.value
 
@@ -149,7 +148,7 @@ module _ (l : Loaded) (h : IsWellPlaced l) (f : Func) (o : Object) (live : objec
       let there : slice_get (map_at l.maps f.module) its.pair.index ≡ Some its.entry =
       subst (λ (n : ℕ). slice_get (map_at l.maps n) its.pair.index ≡ Some its.entry) same its.pair.right in
       let entry : its.entry ≡ by.entry =
-      one_entry (map_at l.maps f.module) its.pair.index one.0 a its.entry by.entry (h.apart f.module o live) there by.at its.above its.below by.above by.below in
+      one_entry (map_at l.maps f.module) its.pair.index one.0 a its.entry by.entry (h.modules'.standing f.module o live).apart there by.at its.above its.below by.above by.below in
       let value : g.value ≡ f.value = its.value' ∙ ap (λ (e : MapEntry). e.vaddr + (a - e.addr)) entry ∙ by.back in
       both g f same value
     where
@@ -169,7 +168,7 @@ answer_of : (x : Result (Option Func) LoadRefusal) (f : Func) → function_or_no
 answer_of (Ok y) f is = ap (λ z. Ok z) is
 answer_of (Err e) f is = absurd cc
 
-module _ (l : Loaded) (h : IsWellPlaced l) (m k : ℕ) (o : Object) (r : Rel) (slot : SlotPair) (slot_is : IsSlotOf l m k o r slot) where
+module _ (l : Loaded) (h : IsConsistent l) (m k : ℕ) (o : Object) (r : Rel) (slot : SlotPair) (slot_is : IsSlotOf l m k o r slot) where
   word_is : slot.code ≡ (slot_pair_at (linkage_of l.process) (placing_of l.process l.maps empty) m o r).code
   word_is =
       let both : Some slot ≡ Some (slot_pair_at (linkage_of l.process) (placing_of l.process l.maps empty) m o r) =
@@ -193,7 +192,7 @@ module _ (l : Loaded) (h : IsWellPlaced l) (m k : ℕ) (o : Object) (r : Rel) (s
   no_code (Some g) is =
       let its = coded_by l 0 g is in
       let entry =
-      zip_get (IsEntryOf l.plan) its.object'.segments (map_at l.maps g.module) its.pair.index its.entry (h.consistent.modules'.standing g.module its.object' its.live).mapped its.pair.right in
+      zip_get (IsEntryOf l.plan) its.object'.segments (map_at l.maps g.module) its.pair.index its.entry (h.modules'.standing g.module its.object' its.live).mapped its.pair.right in
       let above = entry.2.above in
       let low : its.entry.addr ≤ 0 = its.above in
       absurd (omega arith)

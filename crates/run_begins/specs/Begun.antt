@@ -7,6 +7,7 @@ use Rattle.a32_machine.specs.Bits.{minus}
 use Rattle.a32_machine.specs.Registers.{pc_of}
 use Rattle.load_model.specs.declared.words.SlotPair.{SlotPair}
 use Rattle.load_model.specs.Process.{object_at}
+use Rattle.load_state.specs.Consistent.{IsConsistent}
 use Rattle.load_state.specs.Loaded.{Loaded}
 use Rattle.load_state.specs.Slots.{slot_pair_of}
 use Rattle.plt_code.specs.Entries.{IsClear}
@@ -14,7 +15,6 @@ use Rattle.run_model.specs.declared.thread.Call.{Call}
 use Rattle.run_model.specs.declared.thread.TheConstants.{BOUND_CALL}
 use Rattle.run_model.specs.Places.{call_begun, code_at, got_at}
 use Rattle.run_calls.specs.Calls.{BoundCall, Begins, Holds}
-use Rattle.call_facts.specs.Calls.{IsWellPlaced}
 
 -- the call from an entry through a slot
 abbrev pub bound_call : ℕ → ℕ → SlotPair → BoundCall
@@ -36,5 +36,5 @@ pub record IsHeldCall (l : Loaded) (cpu : Cpu) (call : Call) : Type 0 where
 
 abbrev pub BegunCallsHold : Type 0
 BegunCallsHold =
-    (l : Loaded) (cpu : Cpu) (call : Call) → IsWellPlaced l → l.plan.memory < 2 ^ 32 → length cpu.r ≡ 16
+    (l : Loaded) (cpu : Cpu) (call : Call) → IsConsistent l → l.plan.memory < 2 ^ 32 → length cpu.r ≡ 16
     → call_begun l.process l.maps cpu ≡ Some call → IsAtClearEntry l cpu call → IsHeldCall l cpu call

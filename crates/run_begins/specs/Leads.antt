@@ -7,10 +7,10 @@ use Rattle.elf_model.specs.Places.{slot_of}
 use Rattle.load_model.specs.declared.words.SlotPair.{SlotPair}
 use Rattle.load_model.specs.Linkage.{linkage_of}
 use Rattle.load_model.specs.Process.{object_at}
+use Rattle.load_state.specs.Consistent.{IsConsistent}
 use Rattle.load_state.specs.Loaded.{Loaded}
 use Rattle.load_state.specs.Slots.{slot_function, slot_pair_of}
 use Rattle.run_model.specs.Places.{code_at}
-use Rattle.call_facts.specs.Calls.{IsWellPlaced}
 
 -- slot k of live module m, and its pair
 pub record IsSlotOf (l : Loaded) (m k : ℕ) (o : Object) (r : Rel) (slot : SlotPair) : Type 0 where
@@ -20,7 +20,7 @@ pub record IsSlotOf (l : Loaded) (m k : ℕ) (o : Object) (r : Rel) (slot : Slot
 
 -- The code at the first word of a slot is the function to which the slot leads. Where it leads to none, no code is there.
 pub record SlotsLeadToCode : Type 0 where
-  pub function : (l : Loaded) (m k : ℕ) (o : Object) (r : Rel) (slot : SlotPair) (f : Func) → IsWellPlaced l → IsSlotOf l m k o r slot
+  pub function : (l : Loaded) (m k : ℕ) (o : Object) (r : Rel) (slot : SlotPair) (f : Func) → IsConsistent l → IsSlotOf l m k o r slot
       → slot_function (linkage_of l.process) m o r ≡ Some f → code_at l.process l.maps slot.code ≡ Some f
-  pub nothing : (l : Loaded) (m k : ℕ) (o : Object) (r : Rel) (slot : SlotPair) → IsWellPlaced l → IsSlotOf l m k o r slot
+  pub nothing : (l : Loaded) (m k : ℕ) (o : Object) (r : Rel) (slot : SlotPair) → IsConsistent l → IsSlotOf l m k o r slot
       → slot_function (linkage_of l.process) m o r ≡ None → code_at l.process l.maps slot.code ≡ None

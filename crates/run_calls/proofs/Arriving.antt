@@ -1,5 +1,5 @@
 -- A call in progress has its line of arrival with the last of its steps.
-use Rattle.std.proofs.Common.{◌≡◌, ◌≢◌, ℕ, zero, suc, ◌+◌, ◌<◌, ◌≤◌, Bool, true, false, cond, List, [], ◌∷◌, ◌++◌, Option, Some, None, refl, ap, sym, subst, ◌∙◌, arith, inl}
+use Rattle.std.proofs.Common.{◌≡◌, ◌≢◌, ℕ, zero, suc, ◌+◌, ◌<◌, Bool, true, false, cond, List, [], ◌∷◌, ◌++◌, Option, Some, None, refl, ap, sym, subst, ◌∙◌, arith, inl}
 use Rattle.std.specs.Prelude.{Contains, IfSome, filter, map, nat_le, not, option_and_then, option_map, ◌==◌}
 use Rattle.std.specs.List.{flat_map}
 use Rattle.std.specs.Option.{option_map_or, option_to_list}
@@ -15,11 +15,10 @@ use Rattle.run_model.specs.declared.event.Event.{Event}
 use Rattle.run_model.specs.declared.event.Event.TheVariants.{Arrive}
 use Rattle.run_model.specs.declared.thread.Call.{Call}
 use Rattle.run_model.specs.declared.thread.Thread.{Thread}
-use Rattle.run_model.specs.declared.thread.Turned.TheVariants.{Next}
 use Rattle.run_model.specs.Places.{call_begun, code_at}
 use Rattle.run_model.specs.State.{State, thread_at}
-use Rattle.run_model.specs.Turns.{Taken, advanced, arrival, entering, is_complete, turn_of, went, with_calls}
-use Rattle.run_calls.specs.Calls.{BoundCall, Begins, HasCpu, Holds, cpu_after, slot_of}
+use Rattle.run_model.specs.Turns.{advanced, arrival, entering, is_complete, turn_of, with_calls}
+use Rattle.run_calls.specs.Calls.{BoundCall, Begins, cpu_after, slot_of}
 use Rattle.run_calls.specs.Laws.{EntersArrive, IsTurnOf}
 use Rattle.run_calls.specs.Schedules.{after, events_from, own_turns, turns_from}
 use Rattle.run_calls.proofs.Having.{Has, contains_has, has_contains, has_filter, has_flat_map, has_left, has_map, has_right}
@@ -28,11 +27,11 @@ use Rattle.run_calls.proofs.Turning.{turns_keep}
 use Rattle.run_calls.proofs.Walking.{InCall, call_step, holds_kept, stopped_is, thread_inside, thread_of, went_is}
 
 -- a call with so many steps done is among these
-record IsMade (calls : List Call) (n : ℕ) : Type 0 where
-  call : Call
-  among : Has calls call
-  length : call.length ≡ 4
-  done : call.done ≡ n
+pub record IsMade (calls : List Call) (n : ℕ) : Type 0 where
+  pub call : Call
+  pub among : Has calls call
+  pub length : call.length ≡ 4
+  pub done : call.done ≡ n
 
 complete_at : (call : Call) (n : ℕ) → call.length ≡ 4 → call.done ≡ n → is_complete (advanced call) ≡ (suc n == 4)
 complete_at call n l d = rw (l, d) refl
@@ -62,21 +61,21 @@ arrival_made calls begun steps t place f at m =
     (has_filter is_complete (map advanced calls) (advanced m.call) (complete_at m.call 3 m.length m.done) (has_map advanced calls m.call m.among))
     (rw at (inl refl)))
 
-same_thread : (o : Option Thread) (x y : Thread) → o ≡ Some x → o ≡ Some y → x ≡ y
+pub same_thread : (o : Option Thread) (x y : Thread) → o ≡ Some x → o ≡ Some y → x ≡ y
 same_thread o x y e f = cc
 
 module _ (limit t : ℕ) (begin : Cpu) (c : BoundCall) (f : Func) (begins : Begins begin c) where
-  record Making (n : ℕ) (s : State) : Type 0 where
-    at : InCall begin c t n s
-    made : (thread : Thread) → thread_at s.threads t ≡ Some thread → IsMade thread.calls n
-    place : code_at s.loaded.process s.loaded.maps c.function ≡ Some f
+  pub record Making (n : ℕ) (s : State) : Type 0 where
+    pub at : InCall begin c t n s
+    pub made : (thread : Thread) → thread_at s.threads t ≡ Some thread → IsMade thread.calls n
+    pub place : code_at s.loaded.process s.loaded.maps c.function ≡ Some f
 
   abbrev HasArrival : List Event → Type 0
   HasArrival events = (step : ℕ) × Has events (Arrive step t f)
 
   -- ---- a turn of the calling thread
 
-  next_by : (s : State) (n : ℕ) (b : Bool) → nat_le limit s.steps ≡ b → suc n < 4 → Making n s → IfSome (after (turn_of limit s t)) (Making (suc n))
+  pub next_by : (s : State) (n : ℕ) (b : Bool) → nat_le limit s.steps ≡ b → suc n < 4 → Making n s → IfSome (after (turn_of limit s t)) (Making (suc n))
   next_by s n true late l h =
       let live = thread_of (thread_at s.threads t) (cpu_after begin c n) h.at.cpu in
       rw (stopped_is limit s t live.thread live.at late) tt
@@ -95,7 +94,9 @@ module _ (limit t : ℕ) (begin : Cpu) (c : BoundCall) (f : Func) (begins : Begi
         place = h.place;
       })
 
-  last_by : (s : State) (b : Bool) → nat_le limit s.steps ≡ b → Making 3 s → IfSome (after (turn_of limit s t)) (λ later. HasArrival (turn_of limit s t).events)
+  -- the line has the number of steps that are done then
+  pub last_by : (s : State) (b : Bool) → nat_le limit s.steps ≡ b → Making 3 s
+      → IfSome (after (turn_of limit s t)) (λ later. Has (turn_of limit s t).events (Arrive later.steps t f))
   last_by s true late h =
       let live = thread_of (thread_at s.threads t) (cpu_after begin c 3) h.at.cpu in
       rw (stopped_is limit s t live.thread live.at late) tt
@@ -107,11 +108,11 @@ module _ (limit t : ℕ) (begin : Cpu) (c : BoundCall) (f : Func) (begins : Begi
       let at_function : pc_of cpu ≡ c.function = standing-pc begin s.loaded.memory begins.registers c.function (slot_of c) c.function_got in
       let place : code_at s.loaded.process s.loaded.maps (pc_of cpu) ≡ Some f = ap (code_at s.loaded.process s.loaded.maps) at_function ∙ h.place in
       rw (went_is limit s t live.thread cpu live.at early step)
-      (suc s.steps, arrival_made live.thread.calls (call_begun s.loaded.process s.loaded.maps cpu) (suc s.steps) t _ f place (h.made live.thread live.at))
+      (arrival_made live.thread.calls (call_begun s.loaded.process s.loaded.maps cpu) (suc s.steps) t _ f place (h.made live.thread live.at))
 
   -- ---- a turn of another
 
-  other_makes : (s : State) (u n : ℕ) → t ≢ u → Making n s → IfSome (after (turn_of limit s u)) (Making n)
+  pub other_makes : (s : State) (u n : ℕ) → t ≢ u → Making n s → IfSome (after (turn_of limit s u)) (Making n)
   other_makes s u n ne h =
       IfSome_then (after (turn_of limit s u)) {P = IsTurnOf u s} {Q = Making n} (turns_keep limit s u)
       (λ later k. record {
@@ -145,7 +146,10 @@ module _ (limit t : ℕ) (begin : Cpu) (c : BoundCall) (f : Func) (begins : Begi
       (λ later k. (k.0, has_right events (events_from limit us s) _ k.1))
 
   last_turn : (us : List ℕ) (s : State) → Making 3 s → IfSome (turns_from limit (t ∷ us) s) (λ later. HasArrival (events_from limit (t ∷ us) s))
-  last_turn us s h = arrival_first us (turn_of limit s t).events (after (turn_of limit s t)) (last_by s (nat_le limit s.steps) refl h)
+  last_turn us s h =
+      arrival_first us (turn_of limit s t).events (after (turn_of limit s t))
+      (IfSome_then (after (turn_of limit s t)) {P = λ later. Has (turn_of limit s t).events (Arrive later.steps t f)} {Q = λ later. HasArrival (turn_of limit s t).events}
+      (last_by s (nat_le limit s.steps) refl h) (λ later k. (later.steps, k)))
 
   abbrev Arrives : List ℕ → ℕ → Type 0
   Arrives schedule n = (s : State) → Making n s → IfSome (turns_from limit schedule s) (λ later. HasArrival (events_from limit schedule s))

@@ -46,7 +46,7 @@ memory_of before refusal m (end.Service number) cpu memory h = h
 memory_of before refusal m (end.Stop why) cpu memory h = h
 
 module _ (s : State) (t : ℕ) where
-  memory-keeps : (thread : Thread) → Keeps s.loaded.memory (obeyed_by thread.cpu thread.refusal s.loaded.memory).memory
+  pub memory-keeps : (thread : Thread) → Keeps s.loaded.memory (obeyed_by thread.cpu thread.refusal s.loaded.memory).memory
   memory-keeps thread =
       let after_step = step_of thread.cpu s.loaded.memory in
       memory_of thread.cpu thread.refusal s.loaded.memory after_step.end_ after_step.cpu after_step.memory (step_of-frames thread.cpu s.loaded.memory).keeps

@@ -124,7 +124,7 @@ turn_by limit s t u n begin c true e b h l =
 turn_by limit s t u n begin c false e b h l = other_turn limit s t u n begin c (λ same. eqb-false u t e (sym same)) h
 
 -- what a turn leads to, the later turns go on from
-then_turns : (P Q : State → Type 0) (f : State → Option State) (o : Option State) → IfSome o P → ((s : State) → P s → IfSome (f s) Q) → IfSome (option_and_then f o) Q
+pub then_turns : (P Q : State → Type 0) (f : State → Option State) (o : Option State) → IfSome o P → ((s : State) → P s → IfSome (f s) Q) → IfSome (option_and_then f o) Q
 then_turns P Q f None h g = tt
 then_turns P Q f (Some s) h g = g s h
 

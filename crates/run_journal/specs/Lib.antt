@@ -1,0 +1,4 @@
+pub mod Moments
+pub mod Arrivals
+pub mod Journal
+pub mod Laws

@@ -1,0 +1,5 @@
+use Rattle.run_laws.proofs.Determined.{runs_determined}
+use Rattle.run_laws.proofs.laws.runs_are_determined.Goals as goal
+
+pub returns : goal.returns
+returns c = runs_determined

@@ -1,0 +1,13 @@
+//! What the run of a job comes to. A call of one does nothing.
+
+ghost use Rattle.run_laws.specs.Laws.{RunsAreDetermined, RunsEnd};
+
+/// A job over told files has one course, or one refusal, and not both.
+pub fn runs_are_determined()
+    ensures { RunsAreDetermined }
+{}
+
+/// The course of a job ends where the process ends or stops.
+pub fn runs_end()
+    ensures { RunsEnd }
+{}
