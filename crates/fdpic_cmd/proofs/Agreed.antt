@@ -6,13 +6,20 @@ use Rattle.load_model.specs.declared.plan.MemPlan.{MemPlan}
 use Rattle.load_laws.proofs.Determined.{loads_determined}
 use Rattle.proc_run.specs.declared.job.Job.{Job}
 use Rattle.job_text.proofs.Unique as unique
+use Rattle.run_laws.proofs.Determined.{runs_determined}
+use Rattle.run_model.specs.declared.thread.Turned.{Turned}
+use Rattle.run_model.specs.declared.thread.Turned.TheVariants as turned
+use Rattle.run_model.specs.Courses.{Course}
+use Rattle.run_model.specs.Report.{report_of}
 use Rattle.fdpic_cmd.specs.declared.command.Command.{Command}
-use Rattle.fdpic_cmd.specs.declared.command.Command.TheVariants.{Bind, BindJob, Code, Show}
+use Rattle.fdpic_cmd.specs.declared.command.Command.TheVariants.{Bind, BindJob, Code, Run, Show}
 use Rattle.fdpic_cmd.specs.Outcome.{Outcome, writes, refuses}
 use Rattle.fdpic_cmd.specs.Bind.{plan_of, refusal_of}
-use Rattle.fdpic_cmd.specs.Jobs.{OnJob, OnNoJob, BindJobMeans}
+use Rattle.fdpic_cmd.specs.Jobs.{OnJob, OnNoJob, JobMeans}
 use Rattle.fdpic_cmd.specs.Program.{ProgramMeans}
+use Rattle.fdpic_cmd.specs.Run.{IsStatusOf, JobRunMeans}
 use Rattle.fdpic_cmd.specs.Slots.{slot_listing}
+use Rattle.fdpic_cmd.specs.declared.status.Status.{Status}
 use Rattle.fdpic_cmd.specs.declared.status.Refusal.{Refusal}
 use Rattle.fdpic_cmd.specs.declared.status.Refusal.TheVariants.{TooLong, Job as NoJob, Load}
 use Rattle.elf_model.specs.declared.object.Object.{Object}
@@ -70,14 +77,43 @@ text_agrees means agree bytes a b (inr p) (inr q) =
     agree_same a b (refuses (NoJob q.refusal.line q.refusal.kind))
     (p.says ∙ ap (λ r. refuses (NoJob r.line r.kind)) (unique.first bytes p.refusal q.refusal p.refused q.refused)) q.says
 
-job_agrees : (file : List ℕ) (told : Files) (a b : Outcome) → BindJobMeans file told a → BindJobMeans file told b → Agree a b
-job_agrees file told a b p q =
-    let means : Job → Outcome → Type 0 = λ job o. ProgramMeans job.plan job.program Load told o in
-    let agree = text_agrees means (λ job a b p q. program_agrees job.plan job.program Load told a b p q) in
-    agree_found file (λ bytes o. OnJob means bytes o ⊎ OnNoJob bytes o) agree (get told file) a b p q
+-- what is done with the job in a file comes to one status and one text, where it does so with each job
+in_file : (means : Job → Outcome → Type 0) → ((job : Job) (a b : Outcome) → means job a → means job b → Agree a b) → (file : List ℕ) (told : Files)
+    (a b : Outcome) → JobMeans means file told a → JobMeans means file told b → Agree a b
+in_file means agree file told a b p q =
+    agree_found file (λ bytes o. OnJob means bytes o ⊎ OnNoJob bytes o) (text_agrees means agree) (get told file) a b p q
+
+-- ---- runs
+
+one_status : (answer : Turned) (a b : Status) → IsStatusOf answer a → IsStatusOf answer b → a ≡ b
+one_status turned.Ended a b p q = p ∙ sym q
+one_status (turned.Stopped why) a b p q = p ∙ sym q
+one_status turned.Next a b p q = absurd p
+one_status turned.Yield a b p q = absurd p
+one_status turned.ThreadDone a b p q = absurd p
+one_status turned.StoreFault a b p q = absurd p
+one_status turned.SinkFault a b p q = absurd p
+one_status turned.Memory a b p q = absurd p
+
+-- the run of a job comes to one course, or to one refusal
+run_agrees : (told : Files) (job : Job) (a b : Outcome) → JobRunMeans told job a → JobRunMeans told job b → Agree a b
+run_agrees told job a b (inl p) (inl q) =
+    let same : p.course ≡ q.course = runs_determined.same job told p.course q.course p.run q.run in
+    let is : IsStatusOf q.course.answer a.status = subst (λ (c : Course). IsStatusOf c.answer a.status) same p.status' in
+    record {
+      status = one_status q.course.answer a.status b.status is q.status';
+      text = p.text' ∙ ap (λ (c : Course). report_of c.events) same ∙ sym q.text';
+    }
+run_agrees told job a b (inl p) (inr q) = absurd (runs_determined.exclusive job told p.course q.refusal p.run q.refused)
+run_agrees told job a b (inr p) (inl q) = absurd (runs_determined.exclusive job told q.course p.refusal q.run p.refused)
+run_agrees told job a b (inr p) (inr q) =
+    let same = runs_determined.one_refusal job told p.refusal q.refusal p.refused q.refused in
+    agree_same a b (refuses (Load q.refusal)) (p.says ∙ ap (λ r. refuses (Load r)) same) q.says
 
 pub agrees : (command : Command) (told : Files) (a b : Outcome) → Means command told a → Means command told b → Agree a b
 agrees (Bind file text data') told a b p q = program_agrees (plan_of file text data') file (refusal_of file) told a b p q
-agrees (BindJob file) told a b p q = job_agrees file told a b p q
+agrees (BindJob file) told a b p q =
+    in_file (λ job o. ProgramMeans job.plan job.program Load told o) (λ job a b p q. program_agrees job.plan job.program Load told a b p q) file told a b p q
 agrees (Code file) told a b p q = list_agrees code_listing file told a b p q
+agrees (Run file) told a b p q = in_file (JobRunMeans told) (run_agrees told) file told a b p q
 agrees (Show file) told a b p q = list_agrees object_listing file told a b p q

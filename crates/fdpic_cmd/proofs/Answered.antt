@@ -3,7 +3,7 @@ use Rattle.std.proofs.Common.{◌≡◌, ℕ, List, Option, Some, None, refl, sy
 use Rattle.fd_base.specs.Fetched.{Files}
 use Rattle.fd_base.proofs.Growing.{grew_whole}
 use Rattle.fdpic_cmd.specs.declared.status.Status.{Status}
-use Rattle.fdpic_cmd.specs.declared.status.Status.TheVariants.{Done, Memory, Words, StoreFault, SinkFault, Refused}
+use Rattle.fdpic_cmd.specs.declared.status.Status.TheVariants.{Done, Memory, Words, StoreFault, SinkFault, Refused, Stopped}
 use Rattle.fdpic_cmd.specs.declared.command.Command.{Command}
 use Rattle.fdpic_cmd.specs.Outcome.{Outcome}
 use Rattle.fdpic_cmd.specs.Ended.{Kind, own, refusal, lacks, unlisted, store_failed, sink_failed, kind_of, EndsAs, Outside, CameTo, IsPartly, IsCutOff, IsCutOffUnless, KeepsOthers}
@@ -57,3 +57,4 @@ line_is Words ne = refl
 line_is StoreFault ne = refl
 line_is SinkFault ne = refl
 line_is (Refused r) ne = refl
+line_is (Stopped why) ne = refl

@@ -6,7 +6,7 @@ use Rattle.fd_base.specs.Faults.{Rose}
 use Rattle.fd_base.specs.Grown.{GrewByPart}
 use Rattle.fd_base.proofs.Growing.{grew_whole, grew_no_part}
 use Rattle.fdpic_cmd.specs.declared.status.Status.{Status}
-use Rattle.fdpic_cmd.specs.declared.status.Status.TheVariants.{Done, Memory, Words, StoreFault, SinkFault, Refused}
+use Rattle.fdpic_cmd.specs.declared.status.Status.TheVariants.{Done, Memory, Words, StoreFault, SinkFault, Refused, Stopped}
 use Rattle.fdpic_cmd.specs.declared.status.Refusal.{Refusal}
 use Rattle.fdpic_cmd.specs.declared.command.Command.{Command}
 use Rattle.fdpic_cmd.specs.Outcome.{Outcome, refuses}
@@ -134,6 +134,7 @@ status_of command old new told SinkFault e a o m = inr (inr (inr (refl, a.1)))
 status_of command old new told (Refused r) e a o m =
     let meant : Means command told (refuses r) = told_at old told (λ t. Means command t (refuses r)) e a.2 in
     inl (agrees command told (refuses r) o meant m).status
+status_of command old new told (Stopped why) e a o m = own_yields command old new told (Stopped why) e a o m
 
 pub exact : (c : Option Command) (old new : Outside) (s : Status) → Answers c old new s → (told : Files) → old.files ≡ Some told → (o : Outcome) → CommandMeans c told o → Yields o.status old new s
 exact None old new s a told e o m = absurd m

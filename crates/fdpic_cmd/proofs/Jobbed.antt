@@ -37,7 +37,7 @@ no_file told name r h = before told name (OnText NoneDone) (refuses r) h
 
 module _ (means : Job → Outcome → Type 0) (name : List ℕ) where
   -- the outcome of the job that is in the file
-  done : (told : Files) (job : Job) (o : Outcome) → IsJobFile told name job → means job o → JobMeans means name told o
+  pub done : (told : Files) (job : Job) (o : Outcome) → IsJobFile told name job → means job o → JobMeans means name told o
   done told job o file h = found told name file.bytes (OnText means) o file.file (inl (record { job = job; is = file.is; meant = h }))
 
   none_text : (bytes : List ℕ) (o : Outcome) → OnText NoneDone bytes o → OnText means bytes o

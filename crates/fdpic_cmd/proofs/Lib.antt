@@ -7,4 +7,6 @@ pub mod Found
 pub mod Opened
 pub mod Loading
 pub mod Jobbed
+pub mod Ran
+pub mod Calls
 pub mod Coded

@@ -4,7 +4,7 @@ use Rattle.fd_base.specs.Fetched.{Files, ChangesOnly, with_file}
 use Rattle.fd_base.specs.Faults.{Rose}
 use Rattle.fd_base.specs.Grown.{Grew, GrewByPart}
 use Rattle.fdpic_cmd.specs.declared.status.Status.{Status}
-use Rattle.fdpic_cmd.specs.declared.status.Status.TheVariants.{Done, Memory, Words, StoreFault, SinkFault, Refused}
+use Rattle.fdpic_cmd.specs.declared.status.Status.TheVariants.{Done, Memory, Words, StoreFault, SinkFault, Refused, Stopped}
 use Rattle.fdpic_cmd.specs.declared.status.Refusal.{Refusal}
 use Rattle.fdpic_cmd.specs.declared.status.Failure.{Failure}
 use Rattle.fdpic_cmd.specs.declared.status.Failure.TheVariants.{Refused as Refuses, StoreFault as Fails, Memory as Lacks}
@@ -64,6 +64,7 @@ kind_of Memory = lacks
 kind_of Words = unlisted
 kind_of StoreFault = store_failed
 kind_of SinkFault = sink_failed
+kind_of (Stopped why) = own
 
 abbrev pub EndsAs : Kind → Bool → (Files → Outcome → Type 0) → Outside → Outside → Status → Type 0
 EndsAs own at_once means old new status = IfSome old.files (CameTo means old new status)

@@ -4,7 +4,7 @@ use Rattle.std.specs.Str.{bytes_eq}
 use Rattle.fd_base.specs.Name.{name_refusal_of}
 use Rattle.fd_base.specs.Texts.{number_of}
 use Rattle.fdpic_cmd.specs.declared.command.Command.{Command}
-use Rattle.fdpic_cmd.specs.declared.command.Command.TheVariants.{Bind, BindJob, Code, Show}
+use Rattle.fdpic_cmd.specs.declared.command.Command.TheVariants.{Bind, BindJob, Code, Run, Show}
 
 -- a word as the name of a file, where it is one
 unfoldable pub name_of : List ℕ → Option (List ℕ)
@@ -32,6 +32,10 @@ file_of (file ∷ other ∷ rest) = None
 abbrev pub code_of : List (List ℕ) → Option Command
 code_of words = option_map Code (file_of words)
 
+-- run JOB
+abbrev pub run_of : List (List ℕ) → Option Command
+run_of words = option_map Run (file_of words)
+
 -- show F
 abbrev pub show_of : List (List ℕ) → Option Command
 show_of words = option_map Show (file_of words)
@@ -42,5 +46,6 @@ command_of [] = None
 command_of (verb ∷ rest) =
     if bytes_eq verb (codes "bind") then bind_of rest
     else if bytes_eq verb (codes "code") then code_of rest
+    else if bytes_eq verb (codes "run") then run_of rest
     else if bytes_eq verb (codes "show") then show_of rest
     else None

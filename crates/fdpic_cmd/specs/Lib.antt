@@ -5,6 +5,8 @@ pub mod Slots
 pub mod Program
 pub mod Bind
 pub mod Jobs
+pub mod Run
+pub mod Calls
 pub mod Ended
 pub mod Answers
 pub mod Lines

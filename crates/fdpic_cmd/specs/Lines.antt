@@ -5,7 +5,7 @@ use Rattle.elf_model.specs.declared.refusal.ElfKind.{ElfKind}
 use Rattle.elf_model.specs.declared.refusal.ElfKind.TheVariants.{Short, Ident, Machine, FileType, Header, SegmentRange, SegmentOverlap, TooMany, DynRange, Rela, NoGot, NoCount, Table, NameRange, Tls, Thumb, TextRel, RelocType, SiteRange, SiteOverlap, Group, FunctionPlace}
 use Rattle.elf_model.specs.declared.refusal.ElfRefusal.{ElfRefusal}
 use Rattle.fdpic_cmd.specs.declared.status.Status.{Status}
-use Rattle.fdpic_cmd.specs.declared.status.Status.TheVariants.{Done, Memory, Words, StoreFault, SinkFault, Refused}
+use Rattle.fdpic_cmd.specs.declared.status.Status.TheVariants.{Done, Memory, Words, StoreFault, SinkFault, Refused, Stopped}
 use Rattle.fdpic_cmd.specs.declared.status.Refusal.{Refusal}
 use Rattle.fdpic_cmd.specs.declared.status.Refusal.TheVariants.{Elf as NoObject, NoFile as NoSuchFile, TooLong as FileTooLong, Job, Load}
 use Rattle.load_model.specs.declared.error.LoadRefusal.{LoadRefusal}
@@ -83,6 +83,7 @@ status_text Words = codes "words"
 status_text StoreFault = codes "store fault"
 status_text SinkFault = codes "sink fault"
 status_text (Refused r) = refusal_text r
+status_text (Stopped why) = codes "stopped"
 
 abbrev pub line : List ℕ → List ℕ
 line text = codes "fdpic: " ++ text ++ 10 ∷ []
@@ -95,3 +96,4 @@ line_of Words = line (status_text Words)
 line_of StoreFault = line (status_text StoreFault)
 line_of SinkFault = line (status_text SinkFault)
 line_of (Refused r) = line (status_text (Refused r))
+line_of (Stopped why) = line (status_text (Stopped why))

@@ -1,11 +1,12 @@
 -- What each command means.
-use Rattle.std.specs.Prelude.{ℕ, List, Option, None, Bool, true}
+use Rattle.std.specs.Prelude.{ℕ, List, Option, None, Bool, true, false}
 use Rattle.fd_base.specs.Fetched.{Files}
 use Rattle.fdpic_cmd.specs.declared.command.Command.{Command}
-use Rattle.fdpic_cmd.specs.declared.command.Command.TheVariants.{Bind, BindJob, Code, Show}
+use Rattle.fdpic_cmd.specs.declared.command.Command.TheVariants.{Bind, BindJob, Code, Run, Show}
 use Rattle.fdpic_cmd.specs.Outcome.{Outcome}
 use Rattle.fdpic_cmd.specs.Bind.{BindMeans}
 use Rattle.fdpic_cmd.specs.Jobs.{BindJobMeans}
+use Rattle.fdpic_cmd.specs.Run.{RunMeans}
 use Rattle.fdpic_cmd.specs.Show.{CodeMeans, ShowMeans}
 
 -- Over these files the command comes to this outcome, where nothing outside fails.
@@ -13,6 +14,7 @@ abbrev pub Means : Command → Files → Outcome → Type 0
 Means (Bind file text data') = BindMeans file text data'
 Means (BindJob file) = BindJobMeans file
 Means (Code file) = CodeMeans file
+Means (Run file) = RunMeans file
 Means (Show file) = ShowMeans file
 
 -- the file that a command may change
@@ -20,6 +22,7 @@ abbrev pub target : Command → Option (List ℕ)
 target (Bind file text data') = None
 target (BindJob file) = None
 target (Code file) = None
+target (Run file) = None
 target (Show file) = None
 
 -- whether a command writes its text by one put, when nothing else outside is left to do
@@ -27,4 +30,5 @@ abbrev pub is_at_once : Command → Bool
 is_at_once (Bind file text data') = true
 is_at_once (BindJob file) = true
 is_at_once (Code file) = true
+is_at_once (Run file) = false
 is_at_once (Show file) = true

@@ -18,6 +18,8 @@ pub enum Command {
     BindJob { job: Name },
     /// `code F`: prints the words of the executable segments of the object in file F.
     Code { file: Name },
+    /// `run JOB`: loads the program of the job in this file and runs it, and prints the report of the run.
+    Run { job: Name },
     /// `show F`: prints what the object in file F holds.
     Show { file: Name },
 }
@@ -94,6 +96,16 @@ fn code_of(alloc: Global, words: &[Bytes]) -> Result<Option<Command>, Memory>
     }
 }
 
+/// `run JOB`, by the words behind `run`.
+fn run_of(alloc: Global, words: &[Bytes]) -> Result<Option<Command>, Memory>
+    ensures { IfOk result (λ command. command ≡ forms.run_of words.now) }
+{
+    match file_of(alloc, words)? {
+        Some(job) => Ok(Some(Command::Run { job })),
+        None => Ok(None),
+    }
+}
+
 /// `show F`, by the words behind `show`.
 fn show_of(alloc: Global, words: &[Bytes]) -> Result<Option<Command>, Memory>
     ensures { IfOk result (λ command. command ≡ forms.show_of words.now) }
@@ -115,6 +127,8 @@ pub fn command_of(alloc: Global, words: &[Bytes]) -> Result<Option<Command>, Mem
         bind_of(alloc, rest)
     } else if verb.as_slice() == b"code".as_slice() {
         code_of(alloc, rest)
+    } else if verb.as_slice() == b"run".as_slice() {
+        run_of(alloc, rest)
     } else if verb.as_slice() == b"show".as_slice() {
         show_of(alloc, rest)
     } else {

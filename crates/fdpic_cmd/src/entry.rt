@@ -1,14 +1,15 @@
 //! The program's one entry.
 
-ghost use Rattle.std.specs.Prelude.{◌≡◌, ℕ, ◌≤◌, ◌⊎◌, Option, Some, None, IfSome, IsSome, IsSomeAnd};
+ghost use Rattle.std.specs.Prelude.{◌≡◌, ℕ, ◌≤◌, ◌⊎◌, List, Option, Some, None, IfSome, IsSome, IsSomeAnd};
 ghost use Rattle.fd_base.specs.Fetched.{Files};
 ghost use Rattle.fd_base.specs.Faults.{Rose};
 ghost use Rattle.fd_base.specs.Grown.{Grew, GrewByPart};
 ghost use Rattle.fdpic_cmd.specs.Ended.{kind_of, own, outside, Ends, Says, Writes, KeepsOthers, CameTo};
+ghost use Rattle.fdpic_cmd.specs.Calls.{RanWithCalls};
 ghost use Rattle.fdpic_cmd.specs.Meaning.{Means, target, is_at_once};
 ghost use Rattle.fdpic_cmd.specs.Forms.{command_of};
 ghost use Rattle.fdpic_cmd.specs.Answers.{Answers, KeepsFiles, IsStatus, Reports, WordsMean, Yields, StaysUnless, at_once, IsEnded};
-ghost use Rattle.fdpic_cmd.specs.Ended as ended;
+ghost use Rattle.fdpic_cmd.specs.declared.command.Command.TheVariants.{Run};
 ghost use Rattle.fdpic_cmd.specs.declared.status.Refusal.{Refusal};
 ghost use Rattle.fdpic_cmd.specs.Outcome.{Outcome, refuses};
 
@@ -16,14 +17,16 @@ use crate::bind::bind;
 use crate::command::{Command, command_of};
 use crate::job::bind_job;
 use crate::line::line;
+use crate::run::run_job;
 use crate::show::{code, show};
-use crate::status::{Failure, Status};
+use crate::status::{Failure, Status, failed};
 use fd_base::{Bytes, Sink, SinkErr, Store};
 use std::alloc::Global;
 
 /// Puts a text on out by one put, and none where there is nothing.
 fn write<O: Sink>(out: &mut O, text: &[u8]) -> Status
     ensures answer { Writes text.now (O.bytes out.old) (O.bytes out.new) (O.faults out.old) (O.faults out.new) result }
+    ensures stays { result ≡ Status.StoreFault → O.bytes out.new ≡ O.bytes out.old }
     ensures count { O.faults out.old ≤ O.faults out.new }
 {
     match out.put(text) {
@@ -33,20 +36,10 @@ fn write<O: Sink>(out: &mut O, text: &[u8]) -> Status
     }
 }
 
-/// The status of a failure.
-pub fn failed(failure: Failure) -> Status
-    ensures { result ≡ ended.failed failure }
-{
-    match failure {
-        Failure::Refused(r) => Status::Refused(r),
-        Failure::StoreFault => Status::StoreFault,
-        Failure::Memory => Status::Memory,
-    }
-}
-
 /// Puts a text, or says why there is none.
 fn say<O: Sink>(out: &mut O, text: Result<Bytes, Failure>) -> Status
     ensures answer { Says text (O.bytes out.old) (O.bytes out.new) (O.faults out.old) (O.faults out.new) result }
+    ensures stays { result ≡ Status.StoreFault → O.bytes out.new ≡ O.bytes out.old }
     ensures count { O.faults out.old ≤ O.faults out.new }
 {
     match text {
@@ -66,6 +59,7 @@ fn perform<S: Store, O: Sink>(
     ensures ends { Ends (is_at_once command.now) (Means command.now)
         (outside (S.files store.old) (S.faults store.old) (O.bytes out.old) (O.faults out.old))
         (outside (S.files store.new) (S.faults store.new) (O.bytes out.new) (O.faults out.new)) result }
+    ensures stays { result ≡ Status.StoreFault → O.bytes out.new ≡ O.bytes out.old }
     ensures files { KeepsOthers (target command.now) (S.files store.old) (S.files store.new) }
     ensures store_count { S.faults store.old ≤ S.faults store.new }
     ensures out_count { O.faults out.old ≤ O.faults out.new }
@@ -83,6 +77,7 @@ fn perform<S: Store, O: Sink>(
             let text = code(alloc, store, file);
             say(out, text)
         }
+        Command::Run { job } => run_job(alloc, store, job, out),
         Command::Show { file } => {
             let text = show(alloc, store, file);
             say(out, text)
@@ -97,6 +92,7 @@ fn answer<S: Store, O: Sink>(alloc: Global, words: &[Bytes], store: &mut S, out:
         (outside (S.files store.old) (S.faults store.old) (O.bytes out.old) (O.faults out.old))
         (outside (S.files store.new) (S.faults store.new) (O.bytes out.new) (O.faults out.new)) result }
     ensures untouched { command_of words.now ≡ None → (store.new ≡ store.old) × (out.new ≡ out.old) }
+    ensures stays { result ≡ Status.StoreFault → O.bytes out.new ≡ O.bytes out.old }
     ensures files { KeepsFiles (command_of words.now) (S.files store.old) (S.files store.new) }
     ensures store_count { S.faults store.old ≤ S.faults store.new }
     ensures out_count { O.faults out.old ≤ O.faults out.new }
@@ -141,6 +137,7 @@ fn entry<S: Store, O: Sink, E: Sink>(
         (outside (S.files store.old) (S.faults store.old) (O.bytes out.old) (O.faults out.old))
         (outside (S.files store.new) (S.faults store.new) (O.bytes out.new) (O.faults out.new)) result }
     ensures untouched { command_of words.now ≡ None → (store.new ≡ store.old) × (out.new ≡ out.old) }
+    ensures stays { result ≡ Status.StoreFault → O.bytes out.new ≡ O.bytes out.old }
     ensures files { KeepsFiles (command_of words.now) (S.files store.old) (S.files store.new) }
     ensures line { Reports (E.bytes err.old) (E.bytes err.new) (E.faults err.old) (E.faults err.new) result }
     ensures store_count { S.faults store.old ≤ S.faults store.new }
@@ -178,10 +175,16 @@ pub fn top<S: Store, O: Sink, E: Sink>(
     ensures came { kind_of result ≡ own → IfSome (S.files store.old) (CameTo (WordsMean words.now)
         (outside (S.files store.old) (S.faults store.old) (O.bytes out.old) (O.faults out.old))
         (outside (S.files store.new) (S.faults store.new) (O.bytes out.new) (O.faults out.new)) result) }
+    // Where the words are `run JOB`, out grew by the report of the run of the job in that file, and each call of its journal
+    // arrives.
+    ensures calls { kind_of result ≡ own → (file : List ℕ) → command_of words.now ≡ Some (Run file)
+        → IfSome (S.files store.old) (RanWithCalls file (O.bytes out.old) (O.bytes out.new) result) }
     // Whatever the status, out grew by a prefix of the command's text; with most by nothing.
     ensures part { (told : Files) → S.files store.old ≡ Some told → (o : Outcome) → WordsMean words.now told o
         → GrewByPart (O.bytes out.old) (O.bytes out.new) o.text }
     ensures silent { StaysUnless (at_once (command_of words.now)) result (O.bytes out.old) (O.bytes out.new) }
+    // No command asks the store for anything after it has written.
+    ensures stays { result ≡ Status.StoreFault → O.bytes out.new ≡ O.bytes out.old }
     // err grew by the line of the status.
     ensures line { Reports (E.bytes err.old) (E.bytes err.new) (E.faults err.old) (E.faults err.new) result }
     // No file changes but the one that the words name as an output.

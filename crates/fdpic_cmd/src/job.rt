@@ -15,7 +15,7 @@ use std::alloc::Global;
 
 /// The job that a file holds.
 #[tactic(auto, using(crate::proofs::Jobbed::opened, crate::proofs::Jobbed::no_job, crate::proofs::Jobbed::no_file))]
-fn open_job<S: Store>(alloc: Global, store: &mut S, name: &Name) -> Result<Job, Failure>
+pub fn open_job<S: Store>(alloc: Global, store: &mut S, name: &Name) -> Result<Job, Failure>
     ensures answer { OpensJob (S.files store.old) name.now (S.faults store.old) (S.faults store.new) result }
     ensures fits { IfOk result (λ job. Fits job.plan) }
     ensures files { S.files store.new ≡ S.files store.old }

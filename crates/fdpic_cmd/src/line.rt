@@ -158,6 +158,7 @@ fn put_status(out: &mut Bytes, status: &Status) -> Result<(), Memory>
         Status::StoreFault => out.extend_from_slice(b"store fault"),
         Status::SinkFault => out.extend_from_slice(b"sink fault"),
         Status::Refused(refusal) => put_refusal(out, refusal),
+        Status::Stopped(_) => out.extend_from_slice(b"stopped"),
     }
 }
 

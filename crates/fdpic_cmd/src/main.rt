@@ -11,6 +11,7 @@ mod job;
 mod line;
 mod listing;
 mod program;
+mod run;
 mod show;
 mod slot_listing;
 mod status;

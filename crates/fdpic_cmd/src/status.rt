@@ -1,9 +1,13 @@
 //! How the program ends.
 
+ghost use Rattle.std.specs.Prelude.{◌≡◌};
+ghost use Rattle.fdpic_cmd.specs.Ended as ended;
+
 use elf_model::ElfRefusal;
 use fd_base::Name;
 use job_text::JobKind;
 use load_model::{LoadErr, LoadRefusal};
+use run_model::Stop;
 use std::alloc::AllocError;
 
 /// Why a command is refused.
@@ -36,6 +40,8 @@ pub enum Status {
     SinkFault,
     /// The command is refused.
     Refused(Refusal),
+    /// The run of the job was stopped.
+    Stopped(Stop),
 }
 
 impl Status {
@@ -53,6 +59,7 @@ impl Status {
             Status::StoreFault => 3,
             Status::SinkFault => 4,
             Status::Refused(_) => 5,
+            Status::Stopped(_) => 6,
         }
     }
 }
@@ -63,6 +70,17 @@ pub enum Failure {
     Refused(Refusal),
     StoreFault,
     Memory,
+}
+
+/// The status of a failure.
+pub fn failed(failure: Failure) -> Status
+    ensures { result ≡ ended.failed failure }
+{
+    match failure {
+        Failure::Refused(r) => Status::Refused(r),
+        Failure::StoreFault => Status::StoreFault,
+        Failure::Memory => Status::Memory,
+    }
 }
 
 impl From<AllocError> for Failure {
