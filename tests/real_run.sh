@@ -1,0 +1,20 @@
+#!/bin/sh
+# Runs each real program of a folder beside the project, bound at start, by both builds of `fdpic`: it has to end with the
+# exit value and to put out the bytes that are listed there, and each call that begins has to arrive four steps later.
+# Skipped where there is no such folder. Called at the project's top, after the gate.
+real=../shared/data/real
+[ -d "$real" ] || exit 0
+out=$(cd crates/fdpic_cmd/out && pwd) || exit 1
+cd "$real" || exit 1
+grep -v '^#' expected.txt | while read -r name _ value _ bytes; do
+    for program in "$out/fdpic_cmd" "$out/fdpic_cmd.by-rattle"; do
+        report=$("$program" run "$name-eager.job") || exit 1
+        printf '%s\n' "$report" | awk -v value="$((value))" -v bytes="$bytes" '
+            $1 == "out" && $4 != "-" { put = put $4 }
+            $1 == "enter" { entered++; due[$2 + 4, $3] }
+            $1 == "arrive" { arrived++; if (!(($2, $3) in due)) stray = 1 }
+            $1 == "exit" { ended = $4 }
+            END { exit !(ended == value && put == bytes && arrived == entered && !stray) }
+        ' || { echo "$name: not as listed" >&2; exit 1; }
+    done
+done
