@@ -1,7 +1,7 @@
+pub mod Table
 pub mod Fields
 pub mod Registers
 pub mod Allowed
-pub mod Table
 pub mod Decoding
 pub mod Names
 pub mod Immediate

@@ -124,18 +124,16 @@ fn half_class_of(word: u32) -> Option<Op>
 fn misc_of(word: u32) -> Option<Op>
     ensures { result ≡ misc_of word }
 {
-    if flag(word, 20) {
-        return None;
-    }
     let m = small_field(word, 0, 4);
-    match field(word, 21, 4) {
-        11 if field(word, 16, 4) == 15 && field(word, 8, 4) == 15 && field(word, 5, 2) == 0 => {
+    match (flag(word, 20), field(word, 21, 4)) {
+        (false, 11)
+            if field(word, 16, 4) == 15 && field(word, 8, 4) == 15 && field(word, 5, 2) == 0 => {
             Some(Op::Clz {
                 d: small_field(word, 12, 4),
                 m,
             })
         }
-        9 if field(word, 8, 12) == 0xfff => match field(word, 5, 2) {
+        (false, 9) if field(word, 8, 12) == 0xfff => match field(word, 5, 2) {
             0 => Some(Op::Bx { m }),
             1 => Some(Op::Blx { m }),
             _ => None,
@@ -181,15 +179,12 @@ fn wide_immediate(word: u32) -> u16
 fn wide_of(word: u32) -> Option<Op>
     ensures { result ≡ wide_of word }
 {
-    if flag(word, 20) {
-        return None;
-    }
     let d = small_field(word, 12, 4);
     let imm16 = wide_immediate(word);
-    match field(word, 21, 4) {
-        8 => Some(Op::Movw { d, imm16 }),
-        10 => Some(Op::Movt { d, imm16 }),
-        9 if field(word, 0, 20) == 0xf000 => Some(Op::Nop),
+    match (flag(word, 20), field(word, 21, 4)) {
+        (false, 8) => Some(Op::Movw { d, imm16 }),
+        (false, 10) => Some(Op::Movt { d, imm16 }),
+        (false, 9) if field(word, 0, 20) == 0xf000 => Some(Op::Nop),
         _ => None,
     }
 }

@@ -14,7 +14,7 @@ pub fn constant_of(rot: u8, imm: u8) -> u32
 
 /// Whether a byte rotated right by twice `rot` is the number.
 #[tactic(auto, unfolding(crate::specs::Immediate::gives))]
-fn gives(n: u32, rot: u8) -> bool
+pub fn gives(n: u32, rot: u8) -> bool
     requires { rot < 16 }
     ensures { result ≡ gives n rot }
 {

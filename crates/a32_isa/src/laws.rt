@@ -25,10 +25,11 @@ pub fn round_trips()
 {}
 
 /// A rotation gives a number exactly where a byte rotated so is the number, and that byte is the number
-/// rotated back.
+/// rotated back. A byte rotated is a word.
 pub fn constants()
     ensures gives { (n rot : ℕ) → n < 2 ^ 32 → rot < 16
         → IsTrue (gives n rot) ↔ ((imm : ℕ) × (imm < 256) × (constant_of rot imm ≡ n)) }
     ensures back { (rot imm : ℕ) → rot < 16 → imm < 256
         → rotate_left w32 (constant_of rot imm) (2 * rot) ≡ imm }
+    ensures fits { (rot imm : ℕ) → rot < 16 → imm < 256 → constant_of rot imm < 2 ^ 32 }
 {}

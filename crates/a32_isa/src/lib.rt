@@ -16,8 +16,11 @@ mod puts;
 #[cfg(test)]
 mod tests;
 
+pub use allowed::is_allowed;
 pub use decoder::decode;
 pub use encoder::encode;
+pub use immediate::gives;
 pub use instr::{Arg, HalfOff, Instr, MemOff, Op};
 pub use laws::{constants, one_instruction, one_word, round_trips};
+pub use names::{condition_name, data_name, half_name, long_name, register_name, shift_name};
 pub use printer::print;

@@ -3,9 +3,9 @@
 use Rattle.std.proofs.Common.{◌≡◌, ℕ, suc, ◌+◌, ◌-◌, ◌%◌, ◌^◌, ◌<◌, ◌≤◌, Bool, true, false, List, [], ◌∷◌, Some, Ok, length, get_or, refl, ap, ◌∙◌, arith, add_assoc, eq-eqb}
 use Rattle.std.specs.Prelude.{set, if◌then◌else◌}
 use Rattle.std.proofs.Math.Nat.{mod-eq_of_lt}
-use Rattle.guest_mem.specs.Memory.{Memory, is_watched}
+use Rattle.guest_mem.specs.Memory.{GuestMemory, is_watched}
 use Rattle.guest_mem.specs.Accesses.{fetch_of, read32_of, write32_of}
-use Rattle.guest_mem.specs.Kept.{Keeps}
+use Rattle.guest_mem.specs.parts.Kept.{Keeps}
 use Rattle.guest_mem.proofs.Keeping.{fetch_of-kept, read_of-kept}
 use Rattle.guest_mem.proofs.Writing.{write_of-keeps}
 use Rattle.byteorder.specs.Endian.{little_bytes}
@@ -17,14 +17,14 @@ use Rattle.a32_isa.specs.declared.instr.MemOff.TheVariants as mem
 use Rattle.a32_machine.specs.declared.cpu.Cpu.{Cpu}
 use Rattle.a32_machine.specs.declared.cpu.StepStop.TheVariants.{Unaligned}
 use Rattle.a32_machine.specs.declared.transfer.Size.TheVariants.{Word}
-use Rattle.a32_machine.specs.Bits.{plus, minus}
+use Rattle.fd_base.specs.Sums.{plus, minus}
 use Rattle.a32_machine.specs.Registers.{moved_on, pc_of, reg, with_reg}
 use Rattle.a32_machine.specs.Stepped.{landed, stopped, went_on}
 use Rattle.a32_machine.specs.DataProcessing.{data_processed}
 use Rattle.a32_machine.specs.Transfers.{extended, loaded, stored, transferred}
 use Rattle.a32_machine.specs.Multiple.{registers_of, transferred_all}
 use Rattle.a32_machine.specs.Step.{execute, fetched, obeyed, step_of}
-use Rattle.a32_machine.specs.Entries.{AtEntry, AtLazyPlace, steps_from}
+use Rattle.a32_machine.specs.parts.Entries.{AtEntry, AtLazyPlace, steps_from}
 
 -- ---- the words, decoded
 
@@ -71,23 +71,23 @@ only_r12 = refl
 -- ---- one step for each shape of instruction
 
 -- at a word whose instruction is known
-pub stepped : (cpu : Cpu) (m : Memory) (w : ℕ) (op : Op) → fetch_of m (pc_of cpu) ≡ Ok w → decode_of w ≡ Some (record { cond = 14; op = op }) → step_of cpu m ≡ execute op cpu m
+pub stepped : (cpu : Cpu) (m : GuestMemory) (w : ℕ) (op : Op) → fetch_of m (pc_of cpu) ≡ Ok w → decode_of w ≡ Some (record { cond = 14; op = op }) → step_of cpu m ≡ execute op cpu m
 unfolding step_of
 stepped cpu m w op f d = ap (fetched cpu m) f ∙ ap (obeyed cpu m w) d
 
 -- a word is loaded from above a register, or from below it, into another
-pub word_loaded : (cpu : Cpu) (m : Memory) (w n d off v : ℕ) → fetch_of m (pc_of cpu) ≡ Ok w → decode_of w ≡ Some (record { cond = 14; op = Mem true false true true false n d (mem.Imm off) })
+pub word_loaded : (cpu : Cpu) (m : GuestMemory) (w n d off v : ℕ) → fetch_of m (pc_of cpu) ≡ Ok w → decode_of w ≡ Some (record { cond = 14; op = Mem true false true true false n d (mem.Imm off) })
     → read32_of m (plus (reg cpu n) off) ≡ Ok v → step_of cpu m ≡ landed cpu (moved_on cpu) m d v
 unfolding execute transferred
 word_loaded cpu m w n d off v f c r = stepped cpu m w (Mem true false true true false n d (mem.Imm off)) f c ∙ ap (λ x. loaded cpu (moved_on cpu) m d (extended false Word x)) r
 
-pub word_loaded_below : (cpu : Cpu) (m : Memory) (w n d off v : ℕ) → fetch_of m (pc_of cpu) ≡ Ok w → decode_of w ≡ Some (record { cond = 14; op = Mem true false true false false n d (mem.Imm off) })
+pub word_loaded_below : (cpu : Cpu) (m : GuestMemory) (w n d off v : ℕ) → fetch_of m (pc_of cpu) ≡ Ok w → decode_of w ≡ Some (record { cond = 14; op = Mem true false true false false n d (mem.Imm off) })
     → read32_of m (minus (reg cpu n) off) ≡ Ok v → step_of cpu m ≡ landed cpu (moved_on cpu) m d v
 unfolding execute transferred
 word_loaded_below cpu m w n d off v f c r = stepped cpu m w (Mem true false true false false n d (mem.Imm off)) f c ∙ ap (λ x. loaded cpu (moved_on cpu) m d (extended false Word x)) r
 
 -- a register is pushed
-pub register_pushed : (cpu : Cpu) (m pushed : Memory) (w list k : ℕ) → fetch_of m (pc_of cpu) ≡ Ok w → decode_of w ≡ Some (record { cond = 14; op = Multi false true false true 13 list })
+pub register_pushed : (cpu : Cpu) (m pushed : GuestMemory) (w list k : ℕ) → fetch_of m (pc_of cpu) ≡ Ok w → decode_of w ≡ Some (record { cond = 14; op = Multi false true false true 13 list })
     → registers_of list ≡ k ∷ [] → write32_of m (minus (reg cpu 13) 4) (reg cpu k) ≡ Ok pushed → step_of cpu m ≡ went_on (with_reg (moved_on cpu) 13 (minus (reg cpu 13) 4)) pushed
 unfolding execute transferred_all
 register_pushed cpu m pushed w list k f c l p =
@@ -95,11 +95,11 @@ register_pushed cpu m pushed w list k f c l p =
     ∙ ap (stored cpu (with_reg (moved_on cpu) 13 (minus (reg cpu 13) 4)) m) p
 
 -- the address of an instruction goes to r15
-pub landed_at : (before cpu : Cpu) (m : Memory) (e : ℕ) → e % 4 ≡ 0 → landed before cpu m 15 e ≡ went_on (with_reg cpu 15 e) m
+pub landed_at : (before cpu : Cpu) (m : GuestMemory) (e : ℕ) → e % 4 ≡ 0 → landed before cpu m 15 e ≡ went_on (with_reg cpu 15 e) m
 landed_at before cpu m e h = ap (λ b. if b then went_on (with_reg cpu 15 e) m else stopped before m (Unaligned e)) (eq-eqb (e % 4) 0 h)
 
 -- one step of several
-pub step_on : (n : ℕ) (cpu cpu' : Cpu) (m m' : Memory) → step_of cpu m ≡ went_on cpu' m' → steps_from (suc n) (went_on cpu m) ≡ steps_from n (went_on cpu' m')
+pub step_on : (n : ℕ) (cpu cpu' : Cpu) (m m' : GuestMemory) → step_of cpu m ≡ went_on cpu' m' → steps_from (suc n) (went_on cpu m) ≡ steps_from n (went_on cpu' m')
 unfolding steps_from
 step_on n cpu cpu' m m' e = ap (steps_from n) e
 
@@ -110,7 +110,7 @@ by_sixteen P f _ h = absurd (omega arith)
 
 -- ---- the entry
 
-entry_arrives-named : (r0 r1 r2 r3 r4 r5 r6 r7 r8 g r10 r11 r12 r13 r14 p offset e h : ℕ) (n z c v : Bool) (m : Memory)
+entry_arrives-named : (r0 r1 r2 r3 r4 r5 r6 r7 r8 g r10 r11 r12 r13 r14 p offset e h : ℕ) (n z c v : Bool) (m : GuestMemory)
     → p + 20 < 2 ^ 32
     → fetch_of m p ≡ Ok 0xe59fc008 → fetch_of m (p + 4) ≡ Ok 0xe08cc009 → fetch_of m (p + 8) ≡ Ok 0xe59c9004 → fetch_of m (p + 12) ≡ Ok 0xe59cf000
     → read32_of m (p + 16) ≡ Ok offset → read32_of m (plus g offset) ≡ Ok e → read32_of m (plus (plus g offset) 4) ≡ Ok h → e % 4 ≡ 0
@@ -133,7 +133,7 @@ entry_arrives-named r0 r1 r2 r3 r4 r5 r6 r7 r8 g r10 r11 r12 r13 r14 p offset e 
     word_loaded (cpu h (plus g offset) (p + 12)) m 0xe59cf000 12 15 0 e w3 entry_3 (ap (read32_of m) x0 ∙ slot) ∙ landed_at (cpu h (plus g offset) (p + 12)) (moved_on (cpu h (plus g offset) (p + 12))) m e aligned in
     step_on 3 (cpu g r12 p) (cpu g offset (p + 4)) m m one ∙ step_on 2 _ _ m m two ∙ step_on 1 _ _ m m three ∙ step_on 0 _ _ m m four
 
-pub entry_arrives : (cpu : Cpu) (m : Memory) (p g offset e h : ℕ) → AtEntry cpu m p g offset e h
+pub entry_arrives : (cpu : Cpu) (m : GuestMemory) (p g offset e h : ℕ) → AtEntry cpu m p g offset e h
     → steps_from 4 (went_on cpu m) ≡ went_on (record cpu { r = set (set (set cpu.r 12 (plus g offset)) 9 h) 15 e }) m
 entry_arrives cpu m p g offset e h at =
     let P : List ℕ → Type 0 = λ r. get_or r 15 0 ≡ p → get_or r 9 0 ≡ g → steps_from 4 (went_on (record cpu { r = r }) m) ≡ went_on (record cpu { r = set (set (set r 12 (plus g offset)) 9 h) 15 e }) m in
@@ -143,7 +143,7 @@ entry_arrives cpu m p g offset e h at =
 
 -- ---- the lazy place
 
-lazy_place_arrives-named : (r0 r1 r2 r3 r4 r5 r6 r7 r8 g r10 r11 r12 sp r14 z k resolver number : ℕ) (n zero_ c v : Bool) (m pushed : Memory)
+lazy_place_arrives-named : (r0 r1 r2 r3 r4 r5 r6 r7 r8 g r10 r11 r12 sp r14 z k resolver number : ℕ) (n zero_ c v : Bool) (m pushed : GuestMemory)
     → 4 ≤ z → z + 16 < 2 ^ 32 → g + 8 < 2 ^ 32 → Keeps m pushed → ((i : ℕ) → i < 8 → is_watched m (g + i) ≡ true)
     → fetch_of m z ≡ Ok 0xe51fc00c → fetch_of m (z + 4) ≡ Ok 0xe92d1000 → fetch_of m (z + 8) ≡ Ok 0xe599c004 → fetch_of m (z + 12) ≡ Ok 0xe599f000
     → read32_of m (z - 4) ≡ Ok k → write32_of m (minus sp 4) k ≡ Ok pushed → read32_of m g ≡ Ok resolver → read32_of m (g + 4) ≡ Ok number → resolver % 4 ≡ 0
@@ -168,7 +168,7 @@ lazy_place_arrives-named r0 r1 r2 r3 r4 r5 r6 r7 r8 g r10 r11 r12 sp r14 z k res
     word_loaded (cpu number (minus sp 4) (z + 12)) pushed 0xe599f000 9 15 0 resolver (fetch_of-kept m pushed (z + 12) 0xe599f000 kept w3) lazy_3 head' ∙ landed_at (cpu number (minus sp 4) (z + 12)) (moved_on (cpu number (minus sp 4) (z + 12))) pushed resolver aligned in
     step_on 3 (cpu r12 sp z) (cpu k sp (z + 4)) m m one ∙ step_on 2 _ _ m pushed two ∙ step_on 1 _ _ pushed pushed three ∙ step_on 0 _ _ pushed pushed four
 
-pub lazy_place_arrives : (cpu : Cpu) (m pushed : Memory) (z g k resolver number : ℕ) → AtLazyPlace cpu m pushed z g k resolver number
+pub lazy_place_arrives : (cpu : Cpu) (m pushed : GuestMemory) (z g k resolver number : ℕ) → AtLazyPlace cpu m pushed z g k resolver number
     → steps_from 4 (went_on cpu m) ≡ went_on (record cpu { r = set (set (set cpu.r 13 (minus (get_or cpu.r 13 0) 4)) 12 number) 15 resolver }) pushed
 lazy_place_arrives cpu m pushed z g k resolver number at =
     let kept : Keeps m pushed = write_of-keeps 4 m (minus (get_or cpu.r 13 0) 4) (little_bytes 4 k) pushed at.room in

@@ -1,23 +1,15 @@
 -- The registers of a list, one after another.
-use Rattle.std.proofs.Common.{◌≡◌, ℕ, zero, suc, ◌+◌, ◌*◌, ◌/◌, ◌%◌, ◌^◌, ◌<◌, Bool, true, false, cond, List, [], ◌∷◌, ◌++◌, take, set, get_or, length, sym, ap, ◌∙◌, arith, append-nil, add-one}
+use Rattle.std.proofs.Common.{◌≡◌, ℕ, zero, suc, ◌+◌, ◌*◌, ◌/◌, ◌%◌, ◌^◌, ◌<◌, Bool, true, false, cond, List, [], ◌∷◌, ◌++◌, take, set, get_or, length, sym, ap, ◌∙◌, arith, append-nil}
 use Rattle.std.specs.List.{filter, range_with_len}
 use Rattle.std.proofs.lemmas.List.{take_more_set}
 use Rattle.std.proofs.lemmas.List.Elements.{filter-append}
 use Rattle.std.proofs.lemmas.Nat.{mod-pow-add}
+use Rattle.fd_base.proofs.Lists.{range_more}
 use Rattle.a32_isa.specs.Registers.{is_listed}
-
-range-suc : (a n : ℕ) → range_with_len a (suc n) ≡ range_with_len a n ++ (a + n) ∷ []
-range-suc a zero = ap (λ k. k ∷ []) (omega arith)
-range-suc a (suc n) =
-    let next : a + 1 + n ≡ a + suc n = omega arith in
-    ap (λ ks. a ∷ ks) (range-suc (a + 1) n) ∙ ap (λ k. a ∷ (range_with_len (a + 1) n ++ k ∷ [])) next
 
 -- the registers below the next one
 filter-more : (test : ℕ → Bool) (k : ℕ) → filter test (range_with_len 0 (k + 1)) ≡ filter test (range_with_len 0 k) ++ filter test (k ∷ [])
-filter-more test k =
-    let at : 0 + k ≡ k = omega arith in
-    ap (λ n. filter test (range_with_len 0 n)) (add-one k) ∙ ap (filter test) (range-suc 0 k) ∙ filter-append test (range_with_len 0 k) ((0 + k) ∷ [])
-    ∙ ap (λ n. filter test (range_with_len 0 k) ++ filter test (n ∷ [])) at
+filter-more test k = ap (filter test) (range_more k) ∙ filter-append test (range_with_len 0 k) (k ∷ [])
 
 pub listed_taken : (places : List ℕ) (list count k : ℕ) → count < length places → is_listed list k ≡ true → take count places ≡ filter (is_listed list) (range_with_len 0 k)
     → take (count + 1) (set places count k) ≡ filter (is_listed list) (range_with_len 0 (k + 1))
@@ -29,14 +21,6 @@ pub listed_skipped : (places : List ℕ) (list count k : ℕ) → is_listed list
     → take count places ≡ filter (is_listed list) (range_with_len 0 (k + 1))
 listed_skipped places list count k e h =
     h ∙ sym (filter-more (is_listed list) k ∙ ap (λ b. filter (is_listed list) (range_with_len 0 k) ++ cond b (k ∷ []) []) e ∙ append-nil (filter (is_listed list) (range_with_len 0 k)))
-
--- a register put among registers
-pub set_below : (places : List ℕ) (i v n k : ℕ) → ((j : ℕ) → get_or places j 0 < n) → v < n → get_or (set places i v) k 0 < n
-set_below [] i v n k h l = h k
-set_below (x ∷ xs) zero v n zero h l = l
-set_below (x ∷ xs) zero v n (suc k) h l = h (suc k)
-set_below (x ∷ xs) (suc i) v n zero h l = h zero
-set_below (x ∷ xs) (suc i) v n (suc k) h l = set_below xs i v n k (λ j. h (suc j)) l
 
 -- a bit that isn't set adds nothing
 pub clear_below : (list k : ℕ) → list / 2 ^ k % 2 ≡ 0 → list % 2 ^ k ≡ 0 → list % 2 ^ (k + 1) ≡ 0

@@ -3,7 +3,7 @@ use Rattle.std.proofs.Common.{◌≡◌, ℕ, ◌+◌, ◌-◌, ◌*◌, ◌/◌
 use Rattle.std.specs.Prelude.{if◌then◌else◌}
 use Rattle.std.proofs.Math.Nat.{pow-le-pow_right, div-eq_of_lt, mul_assoc}
 use Rattle.std.proofs.lemmas.Bool.{eqb-true}
-use Rattle.std.proofs.lemmas.Nat.{pow-add, pow_below, pow_pos, div-mul-add, one_shl, shl_whole, shr_below, shr_le}
+use Rattle.std.proofs.lemmas.Nat.{pow-add, pow_below, pow_pos, div-mul-add, shl_whole, shr_le}
 use Rattle.a32_machine.specs.Bits.{bit_of}
 use Rattle.a32_machine.specs.Shifter.{shifted_left, shifted_right, sign_shifted_right}
 

@@ -5,13 +5,6 @@ use Rattle.std.specs.Prelude.{ℕ, ◌+◌, ◌-◌, ◌/◌, ◌%◌, ◌^◌, 
 abbrev pub bit_of : ℕ → ℕ → Bool
 bit_of x place = x / 2 ^ place % 2 == 1
 
--- sums of words, modulo 2^32
-abbrev pub plus : ℕ → ℕ → ℕ
-plus a b = (a + b) % 2 ^ 32
-
-abbrev pub minus : ℕ → ℕ → ℕ
-minus a b = (a + (2 ^ 32 - b)) % 2 ^ 32
-
 -- a number of some bits with copies of its highest bit above, as far as it becomes a number of `to` bits (SignExtend)
 abbrev pub sign_extended : ℕ → ℕ → ℕ → ℕ
 sign_extended from to x = if bit_of x (from - 1) then x + (2 ^ to - 2 ^ from) else x

@@ -1,7 +1,7 @@
 -- Data operations, moves of immediates and counts of zeros (Arm ARM, DDI 0406C, A4.4.1).
 use Rattle.std.specs.Prelude.{ℕ, ◌+◌, ◌*◌, ◌%◌, ◌^◌, Bool, true, false, bit_and, bit_or, bit_xor, ◌==◌, if◌then◌else◌}
 use Rattle.std.specs.Int.{w32, leading_zeros}
-use Rattle.guest_mem.specs.Memory.{Memory}
+use Rattle.guest_mem.specs.Memory.{GuestMemory}
 use Rattle.a32_isa.specs.Registers.{is_comparison}
 use Rattle.a32_isa.specs.declared.instr.Arg.{Arg}
 use Rattle.a32_machine.specs.declared.arithmetic.Outcome.{Outcome}
@@ -41,21 +41,21 @@ abbrev pub with_flags : Bool → Outcome → Cpu → Cpu
 with_flags s o cpu = if s then record cpu { n = bit_of o.value 31; z = o.value == 0; c = o.carry; v = o.overflow } else cpu
 
 -- a comparison gives its flags alone
-abbrev pub computed : ℕ → Bool → ℕ → Outcome → Cpu → Memory → Stepped
+abbrev pub computed : ℕ → Bool → ℕ → Outcome → Cpu → GuestMemory → Stepped
 computed op s d o cpu memory =
     if is_comparison op then went_on (with_flags s o (moved_on cpu)) memory
     else landed cpu (with_flags s o (moved_on cpu)) memory d o.value
 
-unfoldable pub data_processed : ℕ → Bool → ℕ → ℕ → Arg → Cpu → Memory → Stepped
+unfoldable pub data_processed : ℕ → Bool → ℕ → ℕ → Arg → Cpu → GuestMemory → Stepped
 data_processed op s n d arg cpu memory = computed op s d (outcome_of op cpu (reg cpu n) (operand_of cpu arg)) cpu memory
 
 -- CLZ (A8.8.33): the number of zeros above the highest one, and 32 of 0
-abbrev pub zeros_counted : ℕ → ℕ → Cpu → Memory → Stepped
+abbrev pub zeros_counted : ℕ → ℕ → Cpu → GuestMemory → Stepped
 zeros_counted d m cpu memory = went_on (with_reg (moved_on cpu) d (leading_zeros w32 (reg cpu m))) memory
 
 -- MOV of 16 bits (A8.8.102, encoding A2), and MOVT (A8.8.106), which keeps the low half
-abbrev pub wide_moved : ℕ → ℕ → Cpu → Memory → Stepped
+abbrev pub wide_moved : ℕ → ℕ → Cpu → GuestMemory → Stepped
 wide_moved d imm16 cpu memory = went_on (with_reg (moved_on cpu) d imm16) memory
 
-abbrev pub top_moved : ℕ → ℕ → Cpu → Memory → Stepped
+abbrev pub top_moved : ℕ → ℕ → Cpu → GuestMemory → Stepped
 top_moved d imm16 cpu memory = went_on (with_reg (moved_on cpu) d (imm16 * 2 ^ 16 + reg cpu d % 2 ^ 16)) memory

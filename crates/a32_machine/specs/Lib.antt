@@ -10,7 +10,4 @@ pub mod Transfers
 pub mod Multiple
 pub mod Branches
 pub mod Step
-pub mod Fit
-pub mod Frame
-pub mod Depends
-pub mod Entries
+pub mod parts

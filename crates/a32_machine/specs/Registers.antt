@@ -1,7 +1,7 @@
 -- Registers as instructions read and write them (Arm ARM, DDI 0406C, A2.3).
 use Rattle.std.specs.Prelude.{ℕ, get_or, set, ◌==◌, if◌then◌else◌}
 use Rattle.a32_machine.specs.declared.cpu.Cpu.{Cpu}
-use Rattle.a32_machine.specs.Bits.{plus}
+use Rattle.fd_base.specs.Sums.{plus}
 
 -- the address of the instruction
 abbrev pub pc_of : Cpu → ℕ

@@ -2,7 +2,7 @@
 -- The stages come in the order of the stops: the fetch, the word, the alignment of a transfer, its mapping, its
 -- watched bytes, and the new r15.
 use Rattle.std.specs.Prelude.{ℕ, ◌==◌, true, false, not, nat_le, Option, Some, None, Result, Ok, Err, if◌then◌else◌}
-use Rattle.guest_mem.specs.Memory.{Memory}
+use Rattle.guest_mem.specs.Memory.{GuestMemory}
 use Rattle.guest_mem.specs.Accesses.{fetch_of}
 use Rattle.guest_mem.specs.declared.kind.Access.{Access}
 use Rattle.a32_isa.specs.Decoding.{decode_of}
@@ -23,7 +23,7 @@ use Rattle.a32_machine.specs.Multiple.{registers_of, transferred_all}
 use Rattle.a32_machine.specs.Branches.{branched, jumped}
 
 -- what an instruction does whose condition holds
-unfoldable pub execute : Op → Cpu → Memory → Stepped
+unfoldable pub execute : Op → Cpu → GuestMemory → Stepped
 execute (op.Data code s n d arg) cpu memory = data_processed code s n d arg cpu memory
 execute (op.Mul s d s2 m) cpu memory = multiplied s d s2 m cpu memory
 execute (op.Mla s d n s2 m) cpu memory = multiplied_and_added s d n s2 m cpu memory
@@ -44,13 +44,13 @@ execute (op.Blx m) cpu memory = jumped true m cpu memory
 execute (op.Svc imm24) cpu memory = record { end_ = Service imm24; cpu = moved_on cpu; memory = memory }
 
 -- an instruction whose condition fails only passes
-abbrev pub obeyed : Cpu → Memory → ℕ → Option Instr → Stepped
+abbrev pub obeyed : Cpu → GuestMemory → ℕ → Option Instr → Stepped
 obeyed cpu memory word None = stopped cpu memory (Undefined word)
 obeyed cpu memory word (Some i) = if holds i.cond cpu then execute i.op cpu memory else went_on (moved_on cpu) memory
 
-abbrev pub fetched : Cpu → Memory → Result ℕ Access → Stepped
+abbrev pub fetched : Cpu → GuestMemory → Result ℕ Access → Stepped
 fetched cpu memory (Err e) = stopped cpu memory (stop_of e)
 fetched cpu memory (Ok word) = obeyed cpu memory word (decode_of word)
 
-unfoldable pub step_of : Cpu → Memory → Stepped
+unfoldable pub step_of : Cpu → GuestMemory → Stepped
 step_of cpu memory = fetched cpu memory (fetch_of memory (pc_of cpu))

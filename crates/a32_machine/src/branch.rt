@@ -1,7 +1,7 @@
 //! Branches.
 
 ghost use Rattle.std.specs.Prelude.{◌≡◌, ◌<◌, ◌^◌};
-ghost use Rattle.guest_mem.specs.Memory.{Memory};
+ghost use Rattle.guest_mem.specs.Memory.{GuestMemory};
 ghost use Rattle.a32_machine.specs.Branches as spec;
 
 use crate::cpu::{Cpu, StepEnd};
@@ -37,7 +37,7 @@ fn branch_target(pc: u32, imm24: u32) -> u32
 #[inline]
 pub fn branch(link: bool, imm24: u32, cpu: &mut Cpu) -> StepEnd
     requires { imm24 < 2 ^ 24 }
-    ensures { (m : Memory) → record { end_ = result; cpu = cpu.new; memory = m } ≡ spec.branched link imm24 cpu.old m }
+    ensures { (m : GuestMemory) → record { end_ = result; cpu = cpu.new; memory = m } ≡ spec.branched link imm24 cpu.old m }
 {
     let target = branch_target(cpu.r[15], imm24);
     *cpu = with_reg(linked(link, *cpu), 15, target);
@@ -48,7 +48,7 @@ pub fn branch(link: bool, imm24: u32, cpu: &mut Cpu) -> StepEnd
 #[inline]
 pub fn jump(link: bool, m: u8, cpu: &mut Cpu) -> StepEnd
     requires { m < 16 }
-    ensures { (mem : Memory) → record { end_ = result; cpu = cpu.new; memory = mem } ≡ spec.jumped link m cpu.old mem }
+    ensures { (mem : GuestMemory) → record { end_ = result; cpu = cpu.new; memory = mem } ≡ spec.jumped link m cpu.old mem }
 {
     let target = reg(cpu, m);
     let next = linked(link, *cpu);

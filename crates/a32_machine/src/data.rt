@@ -1,7 +1,7 @@
 //! Data operations, moves of immediates and counts of zeros.
 
 ghost use Rattle.std.specs.Prelude.{◌≡◌, ◌<◌, ◌^◌, ◌*◌};
-ghost use Rattle.guest_mem.specs.Memory.{Memory};
+ghost use Rattle.guest_mem.specs.Memory.{GuestMemory};
 ghost use Rattle.a32_isa.specs.Fields.{Fit};
 ghost use Rattle.a32_isa.specs.Table.{arg_fields};
 ghost use Rattle.a32_machine.specs.DataProcessing as spec;
@@ -70,7 +70,7 @@ pub fn process_data(op: u8, s: bool, n: u8, d: u8, arg: &Arg, cpu: &mut Cpu) -> 
     requires n { n < 16 }
     requires d { d < 16 }
     requires arg { Fit (arg_fields arg.now) }
-    ensures { (m : Memory) → record { end_ = result; cpu = cpu.new; memory = m } ≡ spec.data_processed op s n d arg.now cpu.old m }
+    ensures { (m : GuestMemory) → record { end_ = result; cpu = cpu.new; memory = m } ≡ spec.data_processed op s n d arg.now cpu.old m }
 {
     let o = outcome_of(op, cpu, reg(cpu, n), operand_of(cpu, arg));
     let next = with_flags(s, o, moved_on(*cpu));
@@ -85,7 +85,7 @@ pub fn process_data(op: u8, s: bool, n: u8, d: u8, arg: &Arg, cpu: &mut Cpu) -> 
 pub fn count_zeros(d: u8, m: u8, cpu: &mut Cpu) -> StepEnd
     requires d { d < 16 }
     requires m { m < 16 }
-    ensures { (mem : Memory) → record { end_ = result; cpu = cpu.new; memory = mem } ≡ spec.zeros_counted d m cpu.old mem }
+    ensures { (mem : GuestMemory) → record { end_ = result; cpu = cpu.new; memory = mem } ≡ spec.zeros_counted d m cpu.old mem }
 {
     let zeros = reg(cpu, m).leading_zeros();
     *cpu = with_reg(moved_on(*cpu), d, zeros);
@@ -95,7 +95,7 @@ pub fn count_zeros(d: u8, m: u8, cpu: &mut Cpu) -> StepEnd
 /// An immediate into a register.
 pub fn move_wide(d: u8, imm16: u16, cpu: &mut Cpu) -> StepEnd
     requires { d < 16 }
-    ensures { (m : Memory) → record { end_ = result; cpu = cpu.new; memory = m } ≡ spec.wide_moved d imm16 cpu.old m }
+    ensures { (m : GuestMemory) → record { end_ = result; cpu = cpu.new; memory = m } ≡ spec.wide_moved d imm16 cpu.old m }
 {
     *cpu = with_reg(moved_on(*cpu), d, imm16 as u32);
     StepEnd::Next
@@ -104,7 +104,7 @@ pub fn move_wide(d: u8, imm16: u16, cpu: &mut Cpu) -> StepEnd
 /// An immediate into the upper half of a register.
 pub fn move_top(d: u8, imm16: u16, cpu: &mut Cpu) -> StepEnd
     requires { d < 16 }
-    ensures { (m : Memory) → record { end_ = result; cpu = cpu.new; memory = m } ≡ spec.top_moved d imm16 cpu.old m }
+    ensures { (m : GuestMemory) → record { end_ = result; cpu = cpu.new; memory = m } ≡ spec.top_moved d imm16 cpu.old m }
 {
     let v = imm16 as u32 * 0x1_0000 + reg(cpu, d) % 0x1_0000;
     *cpu = with_reg(moved_on(*cpu), d, v);

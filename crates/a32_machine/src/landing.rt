@@ -1,7 +1,7 @@
 //! How a result or a refusal ends an instruction.
 
 ghost use Rattle.std.specs.Prelude.{◌≡◌, ◌<◌};
-ghost use Rattle.guest_mem.specs.Memory.{Memory};
+ghost use Rattle.guest_mem.specs.Memory.{GuestMemory};
 ghost use Rattle.a32_machine.specs.Stepped as spec;
 ghost use Rattle.a32_machine.specs.declared.cpu.StepEnd.TheVariants.{Stop};
 
@@ -24,7 +24,7 @@ pub fn stop_of(refusal: Access) -> StepEnd
 #[inline]
 pub fn land(cpu: &mut Cpu, next: Cpu, d: u8, v: u32) -> StepEnd
     requires { d < 16 }
-    ensures { (m : Memory) → record { end_ = result; cpu = cpu.new; memory = m } ≡ spec.landed cpu.old next m d v }
+    ensures { (m : GuestMemory) → record { end_ = result; cpu = cpu.new; memory = m } ≡ spec.landed cpu.old next m d v }
 {
     if d == 15 && v % 4 != 0 {
         return StepEnd::Stop(StepStop::Unaligned(v));

@@ -1,7 +1,7 @@
 //! One step: fetched, decoded and obeyed.
 
 ghost use Rattle.std.specs.Prelude.{◌≡◌, ◌%◌, IsTrue};
-ghost use Rattle.guest_mem.specs.Kept.{Keeps};
+ghost use Rattle.guest_mem.specs.parts.Kept.{Keeps};
 ghost use Rattle.a32_isa.specs.Fields.{Fit};
 ghost use Rattle.a32_isa.specs.Allowed.{is_allowed};
 ghost use Rattle.a32_isa.specs.Table.{op_fields};

@@ -1,7 +1,7 @@
 //! Loads and stores of several registers.
 
 ghost use Rattle.std.specs.Prelude.{◌≡◌, ◌+◌, ◌*◌, ◌<◌, ◌≤◌, ◌^◌, List, ℕ, length, map, take, slice_index};
-ghost use Rattle.guest_mem.specs.Memory.{Memory};
+ghost use Rattle.guest_mem.specs.Memory.{GuestMemory};
 ghost use Rattle.a32_machine.specs.Registers.{reg};
 ghost use Rattle.a32_machine.specs.Multiple as spec;
 
@@ -75,7 +75,7 @@ fn spread(cpu: Cpu, registers: &[u8], values: &[u32]) -> Cpu
 
 /// Registers that are loaded, r15 as the last of them.
 fn land_all(cpu: &mut Cpu, loaded: Cpu) -> StepEnd
-    ensures { (m : Memory) → record { end_ = result; cpu = cpu.new; memory = m } ≡ spec.landed_all cpu.old loaded m }
+    ensures { (m : GuestMemory) → record { end_ = result; cpu = cpu.new; memory = m } ≡ spec.landed_all cpu.old loaded m }
 {
     if loaded.r[15] % 4 != 0 {
         return StepEnd::Stop(StepStop::Unaligned(loaded.r[15]));

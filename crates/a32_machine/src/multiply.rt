@@ -1,7 +1,7 @@
 //! Multiplications.
 
 ghost use Rattle.std.specs.Prelude.{◌≡◌, ◌<◌, ◌≤◌, ◌^◌, ◌*◌, ◌+◌};
-ghost use Rattle.guest_mem.specs.Memory.{Memory};
+ghost use Rattle.guest_mem.specs.Memory.{GuestMemory};
 ghost use Rattle.a32_machine.specs.Multiplication as spec;
 
 use crate::cpu::{Cpu, StepEnd};
@@ -11,7 +11,7 @@ use crate::shifter::bit_of;
 /// A product into a register.
 fn keep_product(s: bool, d: u8, product: u32, cpu: &mut Cpu) -> StepEnd
     requires { d < 16 }
-    ensures { (mem : Memory) → record { end_ = result; cpu = cpu.new; memory = mem } ≡ spec.product_kept s d product cpu.old mem }
+    ensures { (mem : GuestMemory) → record { end_ = result; cpu = cpu.new; memory = mem } ≡ spec.product_kept s d product cpu.old mem }
 {
     let mut next = moved_on(*cpu);
     if s {
@@ -28,7 +28,7 @@ pub fn multiply(s: bool, d: u8, s2: u8, m: u8, cpu: &mut Cpu) -> StepEnd
     requires d { d < 16 }
     requires s2 { s2 < 16 }
     requires m { m < 16 }
-    ensures { (mem : Memory) → record { end_ = result; cpu = cpu.new; memory = mem } ≡ spec.multiplied s d s2 m cpu.old mem }
+    ensures { (mem : GuestMemory) → record { end_ = result; cpu = cpu.new; memory = mem } ≡ spec.multiplied s d s2 m cpu.old mem }
 {
     let product = reg(cpu, m).wrapping_mul(reg(cpu, s2));
     keep_product(s, d, product, cpu)
@@ -41,7 +41,7 @@ pub fn multiply_add(s: bool, d: u8, n: u8, s2: u8, m: u8, cpu: &mut Cpu) -> Step
     requires n { n < 16 }
     requires s2 { s2 < 16 }
     requires m { m < 16 }
-    ensures { (mem : Memory) → record { end_ = result; cpu = cpu.new; memory = mem } ≡ spec.multiplied_and_added s d n s2 m cpu.old mem }
+    ensures { (mem : GuestMemory) → record { end_ = result; cpu = cpu.new; memory = mem } ≡ spec.multiplied_and_added s d n s2 m cpu.old mem }
 {
     let product = reg(cpu, m)
         .wrapping_mul(reg(cpu, s2))
@@ -78,7 +78,7 @@ pub fn multiply_long(kind: u8, s: bool, hi: u8, lo: u8, s2: u8, m: u8, cpu: &mut
     requires lo { lo < 16 }
     requires s2 { s2 < 16 }
     requires m { m < 16 }
-    ensures { (mem : Memory) → record { end_ = result; cpu = cpu.new; memory = mem } ≡ spec.multiplied_long kind s hi lo s2 m cpu.old mem }
+    ensures { (mem : GuestMemory) → record { end_ = result; cpu = cpu.new; memory = mem } ≡ spec.multiplied_long kind s hi lo s2 m cpu.old mem }
 {
     let held = reg(cpu, hi) as u64 * 0x1_0000_0000 + reg(cpu, lo) as u64;
     let product = long_result(kind, reg(cpu, m), reg(cpu, s2), held);

@@ -1,7 +1,7 @@
 //! Registers as instructions read and write them.
 
 ghost use Rattle.std.specs.Prelude.{◌≡◌, ℕ, get_or, ◌<◌, ◌^◌};
-ghost use Rattle.a32_machine.specs.Fit.{IsCpu};
+ghost use Rattle.a32_machine.specs.parts.Fit.{IsCpu};
 ghost use Rattle.a32_machine.specs.Registers as spec;
 
 use crate::cpu::Cpu;

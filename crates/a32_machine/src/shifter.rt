@@ -17,6 +17,12 @@ pub struct Shifted {
     pub carry: bool,
 }
 
+/// What a shift by more bits than a word has leaves.
+const ALL_OUT: Shifted = Shifted {
+    value: 0,
+    carry: false,
+};
+
 /// One bit of a word.
 #[inline]
 pub fn bit_of(x: u32, place: u8) -> bool
@@ -33,10 +39,7 @@ fn shifted_left(x: u32, by: u8) -> Shifted
     ensures { result ≡ spec.shifted_left x by }
 {
     if by > 32 {
-        return Shifted {
-            value: 0,
-            carry: false,
-        };
+        return ALL_OUT;
     }
     let wide = (x as u64) << by;
     Shifted {
@@ -52,10 +55,7 @@ fn shifted_right(x: u32, by: u8) -> Shifted
     ensures { result ≡ spec.shifted_right x by }
 {
     if by > 32 {
-        return Shifted {
-            value: 0,
-            carry: false,
-        };
+        return ALL_OUT;
     }
     let wide = x as u64;
     Shifted {

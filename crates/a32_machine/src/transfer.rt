@@ -1,6 +1,7 @@
 //! Loads and stores of one register.
 
-ghost use Rattle.std.specs.Prelude.{◌≡◌, ◌<◌, ◌^◌, ◌*◌, MatchResult, Ok, Err};
+ghost use Rattle.std.specs.Prelude.{◌≡◌, ◌<◌, ◌^◌, ◌*◌};
+ghost use Rattle.guest_mem.specs.parts.Answered.{IsWritten};
 ghost use Rattle.a32_isa.specs.Fields.{Fit};
 ghost use Rattle.a32_isa.specs.Table.{half_low, mem_off_fields};
 ghost use Rattle.a32_machine.specs.Transfers as spec;
@@ -96,7 +97,7 @@ fn load(guest: &Guest, signed: bool, size: Size, addr: u32) -> Result<u32, Acces
 /// The low bytes of a word.
 #[inline]
 fn store(guest: &mut Guest, size: Size, addr: u32, v: u32) -> Result<(), Access>
-    ensures { MatchResult result (λ _. spec.store_of size guest.old addr v ≡ Ok guest.new) (λ e. (spec.store_of size guest.old addr v ≡ Err e) × (guest.new ≡ guest.old)) }
+    ensures { IsWritten result (spec.store_of size guest.old addr v) guest.old guest.new }
 {
     match size {
         Size::Byte => guest.write8(addr, (v % 0x100) as u8),

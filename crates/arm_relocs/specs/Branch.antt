@@ -4,8 +4,8 @@ use Rattle.std.specs.Prelude.{◌≡◌, ℕ, ℤ, pos, negsuc, ◌+◌, ◌-◌
 use Rattle.std.specs.Int.{w32, cast_unsigned}
 
 -- the signed number that bits stand for
-abbrev pub sign_extended : ℕ → ℕ → ℤ
-sign_extended bits n = if nat_lt n (2 ^ (bits - 1)) then pos n else pos n -ℤ pos (2 ^ bits)
+abbrev pub signed_number : ℕ → ℕ → ℤ
+signed_number bits n = if nat_lt n (2 ^ (bits - 1)) then pos n else pos n -ℤ pos (2 ^ bits)
 
 -- the low 24 bits
 abbrev pub imm24 : ℕ → ℕ
@@ -13,7 +13,7 @@ imm24 word = word % 2 ^ 24
 
 -- the distance in bytes that a word holds
 abbrev pub branch_addend : ℕ → ℤ
-branch_addend word = pos 4 *ℤ sign_extended 24 (imm24 word)
+branch_addend word = pos 4 *ℤ signed_number 24 (imm24 word)
 
 -- the distances that 24 bits can hold: whole words, from -2^25 bytes up to 2^25 - 4
 pub record IsDistance (d : ℤ) : Type 0 where

@@ -1,6 +1,9 @@
 pub mod Tests
+pub mod Passing
+pub mod Spanned
 pub mod Computing
 pub mod Examples
+pub mod RelExamples
 pub mod SoundSegments
 pub mod SoundSites
 pub mod Soundness

@@ -9,7 +9,7 @@ use Rattle.std.proofs.lemmas.List.FromFn.{filter_of_map_range_with_len_more}
 use Rattle.std.proofs.lemmas.Bool.{and_parts, and_cases, or_parts, ltb-true, ltb-false, leb-true, leb-false, not-false}
 use Rattle.elf_model.specs.declared.table.ProgramHeader.{ProgramHeader}
 use Rattle.elf_model.specs.declared.refusal.ElfKind.TheVariants.{Tls, TooMany, SegmentRange, SegmentOverlap}
-use Rattle.elf_model.specs.Test.{Test, refuses, only_where, first_failing, each_below}
+use Rattle.elf_model.specs.Test.{ElfTest, refuses, only_where, first_failing, each_below}
 use Rattle.elf_model.specs.Header.{e_phnum}
 use Rattle.elf_model.specs.Segments.{is_load, program_header, program_header_tests, program_header_test, header_offset, loads_below, loads, segment, segment_tests, memory_meets, is_in_range}
 use Rattle.elf_model.specs.Sound.{IsSized, SegmentsApart}
@@ -82,7 +82,7 @@ sound_load bytes hs h before load few range apart =
       apart = rw more (all_pairs_push SegmentsApart (map (segment bytes) hs) (segment bytes h) before.apart (λ k d lt. all_apart_of h bytes hs apart k d lt));
     }
 
-load_tests : (bytes : List ℕ) (hs : List ProgramHeader) (h : ProgramHeader) (offset : ℕ) → List Test
+load_tests : (bytes : List ℕ) (hs : List ProgramHeader) (h : ProgramHeader) (offset : ℕ) → List ElfTest
 load_tests bytes hs h offset =
     refuses TooMany offset (nat_le 8 (length hs))
     ∷ refuses SegmentRange offset (not (is_in_range h (length bytes)))

@@ -12,7 +12,7 @@ use Rattle.elf_model.specs.declared.table.ProgramHeader.{ProgramHeader}
 use Rattle.elf_model.specs.declared.table.RelEntry.{RelEntry}
 use Rattle.elf_model.specs.declared.table.Site.{Site}
 use Rattle.elf_model.specs.declared.object.Segment.{Segment}
-use Rattle.elf_model.specs.Test.{Test, refuses, only_where, first_failing, each_from}
+use Rattle.elf_model.specs.Test.{ElfTest, refuses, only_where, first_failing, each_from}
 use Rattle.elf_model.specs.Segments.{segment, is_writable_at, is_in_memory, has_flag}
 use Rattle.elf_model.specs.Relocations.{meets, is_in_place, is_kind_of, site_tests, rel_entry_tests, all_rel_tests, fixup_tests, fills, site_of, sites_of, got_header, sites_before, sites_before_fixup, word_site}
 use Rattle.elf_model.specs.Places.{is_writable_in, spans}
@@ -69,7 +69,7 @@ good_by_fills : (bytes : List ℕ) (loads : List ProgramHeader) (rs : List Site)
 good_by_fills bytes loads rs e before false t = rw append-nil before
 good_by_fills bytes loads rs e before true t = good_site bytes loads rs e.offset (site_of e) before t
 
-rest_of : (loads : List ProgramHeader) (count : ℕ) (rs : List Site) (e : RelEntry) → List Test
+rest_of : (loads : List ProgramHeader) (count : ℕ) (rs : List Site) (e : RelEntry) → List ElfTest
 rest_of loads count rs e =
     refuses Table e.offset (not (e.symbol == 0 || nat_lt e.symbol count)) ∷ only_where (fills e) (site_tests loads rs e.offset (site_of e))
 

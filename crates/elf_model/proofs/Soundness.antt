@@ -4,10 +4,11 @@ use Rattle.std.specs.Prelude.{filter, option_map, unwrap_or, is_none, count_by}
 use Rattle.std.specs.Option.{option_map_or}
 use Rattle.std.specs.List.{range_with_len}
 use Rattle.std.proofs.lemmas.List.{length-map}
-use Rattle.std.proofs.lemmas.List.Elements.{All-nil, All-cons, All-tail, All-map, All-filter}
+use Rattle.std.proofs.lemmas.List.Elements.{All-nil, All-cons, All-map, All-filter}
 use Rattle.std.proofs.lemmas.List.Sums.{length-filter, count_by-le-length}
 use Rattle.std.proofs.lemmas.List.FromFn.{length-range_with_len}
 use Rattle.std.proofs.lemmas.Bool.{and_parts, or_cases, ltb-false, eqb-true, not-false, false≢true}
+use Rattle.fd_base.proofs.Lists.{all_back}
 use Rattle.elf_model.specs.declared.constants.TheConstants.{DT_REL, DT_RELSZ, DT_JMPREL, DT_PLTRELSZ}
 use Rattle.elf_model.specs.declared.refusal.ElfKind.TheVariants.{Table, TooMany, NoGot, RelocType}
 use Rattle.elf_model.specs.declared.table.ProgramHeader.{ProgramHeader}
@@ -22,7 +23,7 @@ use Rattle.elf_model.specs.Segments.{loads, segments, segment_tests, some_segmen
 use Rattle.elf_model.specs.Sections.{rofixup, rofixup_offset, rofixup_tests, fixups_of}
 use Rattle.elf_model.specs.Dynamic.{first_of, value_of, dynamic_range_tests, dynamic_offset_or, all_entry_tests}
 use Rattle.elf_model.specs.Relocations as rel
-use Rattle.elf_model.specs.Relocations.{rel_table_at, rel_table_tests, both_table_tests, all_rel_tests, fixup_tests, rel_entry_tests, site_tests, sites_before, is_kind_of, rel_entry, own_places, entries_at, is_slot_entry, fills, site_of, sites_of, rel_of, rels_of, word_site, got_header}
+use Rattle.elf_model.specs.Relocations.{rel_table_at, rel_table_tests, both_table_tests, all_rel_tests, fixup_tests, rel_entry_tests, site_tests, is_in_place, sites_before, is_kind_of, rel_entry, own_places, entries_at, is_slot_entry, fills, site_of, sites_of, rel_of, rels_of, word_site, got_header}
 use Rattle.elf_model.specs.Fields as field
 use Rattle.elf_model.specs.Fields.{got_tests, is_got_place, got_or_zero, all_fixup_tests}
 use Rattle.elf_model.specs.Object.{tests, all_segment_tests, dynamic_tests, name_tests, relocation_tests, object_of}
@@ -39,7 +40,7 @@ got_somewhere loads None h = absurd cc
 got_somewhere loads (Some addr) h = h
 
 good_got : (bytes : List ℕ) → first_failing (got_tests bytes) ≡ None → AreGood (segments bytes) (got_header (got_or_zero bytes) ∷ [])
-unfolding got_tests is_got_place
+unfolding got_tests is_got_place is_in_place
 good_got bytes t =
     let place = option_map_or (is_got_place (loads bytes)) (field.got bytes) false in
     let held = front_holds (refuses NoGot (dynamic_offset_or bytes 28) (not place)) [] t in
@@ -131,10 +132,6 @@ few_slots bytes t =
 
 -- ---- the kinds of the slots' relocations
 
-All-right : (P : RelEntry → Type 0) (xs ys : List RelEntry) → All P (xs ++ ys) → All P ys
-All-right P [] ys h = h
-All-right P (x ∷ xs) ys h = All-right P xs ys (All-tail P x (xs ++ ys) h)
-
 kinds_hold : (loads : List ProgramHeader) (count got : ℕ) (es : List RelEntry) → first_failing (all_rel_tests loads count got es) ≡ None
     → All (λ e. is_kind_of e.table e.kind ≡ true) es
 unfolding all_rel_tests rel_entry_tests
@@ -162,7 +159,7 @@ unfolding field.all_rel_entries field.jmprel_entries rel.jmprel_entries
 slot_kinds bytes t =
     let es = rel.jmprel_entries bytes (loads bytes) (field.entries bytes) in
     let tables = in_slot_table bytes (loads bytes) (field.entries bytes) (value_of DT_JMPREL (field.entries bytes)) in
-    let kinds = All-right (λ e. is_kind_of e.table e.kind ≡ true) (rel.rel_entries bytes (loads bytes) (field.entries bytes)) es
+    let kinds = all_back (λ e. is_kind_of e.table e.kind ≡ true) (rel.rel_entries bytes (loads bytes) (field.entries bytes)) es
     (kinds_hold (loads bytes) (field.symbol_count bytes) (got_or_zero bytes) (field.all_rel_entries bytes) t) in
     let all : All (λ e. e.kind ≡ 164) es = λ k d lt. slot_kind (get_or es k d) (tables k d lt) (kinds k d lt) in
     All-map (λ r. r.kind ≡ 164) rel_of (filter fills es) (All-filter fills (λ e. e.kind ≡ 164) es all)

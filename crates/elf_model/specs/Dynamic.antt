@@ -3,11 +3,11 @@ use Rattle.std.specs.Prelude.{ℕ, ◌+◌, ◌*◌, ◌/◌, Bool, not, ◌&&�
 use Rattle.std.specs.Option.{option_map_or}
 use Rattle.std.specs.List.{range_with_len}
 use Rattle.fd_base.specs.Words.{word_in}
-use Rattle.elf_model.specs.declared.constants.TheConstants.{DYN_SIZE, SYM_SIZE, REL_SIZE, PT_DYNAMIC, DT_NULL, DT_NEEDED, DT_STRTAB, DT_RELA, DT_STRSZ, DT_SYMENT, DT_SONAME, DT_REL, DT_RELENT, DT_PLTREL, DT_TEXTREL, DT_FLAGS, DF_TEXTREL, MAX_NEEDED}
+use Rattle.elf_model.specs.declared.constants.TheConstants.{D_TAG, D_VAL, DYN_SIZE, SYM_SIZE, REL_SIZE, PT_DYNAMIC, DT_NULL, DT_NEEDED, DT_STRTAB, DT_RELA, DT_STRSZ, DT_SYMENT, DT_SONAME, DT_REL, DT_RELENT, DT_PLTREL, DT_TEXTREL, DT_FLAGS, DF_TEXTREL, MAX_NEEDED}
 use Rattle.elf_model.specs.declared.refusal.ElfKind.TheVariants.{DynRange, Rela, TextRel, Table, TooMany, NameRange}
 use Rattle.elf_model.specs.declared.table.ProgramHeader.{ProgramHeader}
 use Rattle.elf_model.specs.declared.table.DynEntry.{DynEntry}
-use Rattle.elf_model.specs.Test.{Test, refuses, of_some, each_from}
+use Rattle.elf_model.specs.Test.{ElfTest, refuses, of_some, each_from}
 use Rattle.elf_model.specs.Header.{e_phnum}
 use Rattle.elf_model.specs.Segments.{header_offset, program_header, headers_below, held_at, has_flag}
 use Rattle.elf_model.specs.Strings.{name_at}
@@ -20,7 +20,7 @@ dynamic_header bytes = position (λ h. h.kind == PT_DYNAMIC) (headers_below byte
 
 -- the entry at an offset of the file
 unfoldable pub entry_at : List ℕ → ℕ → DynEntry
-entry_at bytes offset = record { offset = offset; tag = word_in bytes offset; value = word_in bytes (offset + 4) }
+entry_at bytes offset = record { offset = offset; tag = word_in bytes (offset + D_TAG); value = word_in bytes (offset + D_VAL) }
 
 -- the whole entries of n bytes from an offset on
 abbrev pub whole_entries : List ℕ → ℕ → ℕ → List DynEntry
@@ -39,7 +39,7 @@ unfoldable pub entries_of : List ℕ → List ProgramHeader → ProgramHeader �
 entries_of bytes loads h =
     option_and_then (λ offset. before_null (whole_entries bytes offset h.filesz)) (held_at loads h.vaddr h.filesz)
 
-unfoldable pub dynamic_range_tests : List ℕ → List ProgramHeader → List Test
+unfoldable pub dynamic_range_tests : List ℕ → List ProgramHeader → List ElfTest
 dynamic_range_tests bytes loads = of_some (dynamic_header bytes) (λ i.
     refuses DynRange (header_offset bytes i) (is_none (entries_of bytes loads (program_header bytes i)))
     ∷ [])
@@ -55,7 +55,7 @@ dynamic_offset_or bytes place = option_map_or (header_offset bytes) (dynamic_hea
 
 -- ---- each entry
 
-unfoldable pub entry_tests : DynEntry → List Test
+unfoldable pub entry_tests : DynEntry → List ElfTest
 entry_tests e =
     refuses Rela e.offset (e.tag == DT_RELA || (e.tag == DT_PLTREL && not (e.value == DT_REL)))
     ∷ refuses TextRel e.offset (e.tag == DT_TEXTREL || (e.tag == DT_FLAGS && has_flag e.value DF_TEXTREL))
@@ -63,7 +63,7 @@ entry_tests e =
     ∷ []
 
 -- each entry is looked at, also where its tag stood before
-unfoldable pub all_entry_tests : List DynEntry → List Test
+unfoldable pub all_entry_tests : List DynEntry → List ElfTest
 all_entry_tests entries = each_from 0 (λ k e. entry_tests e) entries
 
 -- the first entry of a tag, which is the one that counts
@@ -81,7 +81,7 @@ unfoldable pub strings_at : List ℕ → List ProgramHeader → ℕ → Option �
 strings_at bytes loads table size =
     option_and_then (λ n. option_map (λ offset. slice_range bytes offset (offset + n)) (held_at loads table n)) size
 
-unfoldable pub string_tests : List ℕ → List ProgramHeader → List DynEntry → List Test
+unfoldable pub string_tests : List ℕ → List ProgramHeader → List DynEntry → List ElfTest
 string_tests bytes loads entries = of_some (first_of DT_STRTAB entries) (λ e.
     refuses Table e.offset (is_none (strings_at bytes loads e.value (value_of DT_STRSZ entries)))
     ∷ [])
@@ -97,13 +97,13 @@ abbrev pub needed_entries : List DynEntry → List DynEntry
 needed_entries entries = filter (λ e. e.tag == DT_NEEDED) entries
 
 -- k is how many needed names stand before this one
-unfoldable pub needed_entry_tests : List ℕ → ℕ → DynEntry → List Test
+unfoldable pub needed_entry_tests : List ℕ → ℕ → DynEntry → List ElfTest
 needed_entry_tests strings k e =
     refuses TooMany e.offset (nat_le MAX_NEEDED k)
     ∷ refuses NameRange e.offset (is_none (name_at strings e.value))
     ∷ []
 
-unfoldable pub needed_tests : List ℕ → List DynEntry → List Test
+unfoldable pub needed_tests : List ℕ → List DynEntry → List ElfTest
 needed_tests strings entries = each_from 0 (needed_entry_tests strings) (needed_entries entries)
 
 abbrev pub needed_name : List ℕ → DynEntry → List ℕ
@@ -112,7 +112,7 @@ needed_name strings e = unwrap_or (name_at strings e.value) []
 unfoldable pub needed_of : List ℕ → List DynEntry → List (List ℕ)
 needed_of strings entries = map (needed_name strings) (needed_entries entries)
 
-unfoldable pub soname_tests : List ℕ → List DynEntry → List Test
+unfoldable pub soname_tests : List ℕ → List DynEntry → List ElfTest
 soname_tests strings entries = of_some (first_of DT_SONAME entries) (λ e.
     refuses NameRange e.offset (is_none (name_at strings e.value))
     ∷ [])

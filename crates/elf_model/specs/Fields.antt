@@ -1,7 +1,7 @@
 -- What stands in a file at the places of an object's fields, as functions of its bytes.
-use Rattle.std.specs.Prelude.{ℕ, ◌%◌, Bool, false, not, ◌&&◌, ◌||◌, ◌==◌, nat_lt, List, [], ◌∷◌, Option, Some, None, option_map, option_and_then, is_some, unwrap_or, if◌then◌else◌}
+use Rattle.std.specs.Prelude.{ℕ, Bool, false, not, ◌||◌, nat_lt, List, [], ◌∷◌, Option, Some, None, option_map, option_and_then, is_some, unwrap_or, if◌then◌else◌}
 use Rattle.std.specs.Option.{option_map_or, option_or}
-use Rattle.elf_model.specs.declared.constants.TheConstants.{DT_PLTGOT, DT_INIT, DT_FINI, DT_SYMBOLIC, DT_BIND_NOW, DT_INIT_ARRAY, DT_INIT_ARRAYSZ, DT_FINI_ARRAY, DT_FINI_ARRAYSZ, DT_FLAGS, DF_SYMBOLIC, DF_BIND_NOW}
+use Rattle.elf_model.specs.declared.constants.TheConstants.{E_PHOFF, DT_PLTGOT, DT_INIT, DT_FINI, DT_SYMBOLIC, DT_BIND_NOW, DT_INIT_ARRAY, DT_INIT_ARRAYSZ, DT_FINI_ARRAY, DT_FINI_ARRAYSZ, DT_FLAGS, DF_SYMBOLIC, DF_BIND_NOW}
 use Rattle.elf_model.specs.declared.refusal.ElfKind.TheVariants.{NoGot}
 use Rattle.elf_model.specs.declared.table.ProgramHeader.{ProgramHeader}
 use Rattle.elf_model.specs.declared.table.DynEntry.{DynEntry}
@@ -9,8 +9,8 @@ use Rattle.elf_model.specs.declared.table.RelEntry.{RelEntry}
 use Rattle.elf_model.specs.declared.object.Symbol.{Symbol}
 use Rattle.elf_model.specs.declared.object.Extent.{Extent}
 use Rattle.elf_model.specs.declared.object.Inits.{Inits}
-use Rattle.elf_model.specs.Test.{Test, refuses, of_some}
-use Rattle.elf_model.specs.Segments.{loads, is_writable_at, has_flag}
+use Rattle.elf_model.specs.Test.{ElfTest, refuses, of_some}
+use Rattle.elf_model.specs.Segments.{loads, has_flag}
 use Rattle.elf_model.specs.Sections.{rofixup, rofixup_offset, listed_got, fixups_of}
 use Rattle.elf_model.specs.Dynamic.{dynamic_entries, dynamic_offset_or, first_of, value_of, strings_of}
 use Rattle.elf_model.specs.Symbols as sym
@@ -27,12 +27,12 @@ got bytes = option_or (value_of DT_PLTGOT (entries bytes)) (option_map (listed_g
 
 -- at a multiple of 4, its header in the memory of one writable segment
 unfoldable pub is_got_place : List ProgramHeader → ℕ → Bool
-is_got_place loads addr = addr % 4 == 0 && is_writable_at loads addr 12
+is_got_place loads addr = rel.is_in_place loads (rel.got_header addr)
 
 -- it is reported at the header of the dynamic section, and where there is none at the field e_phoff
-unfoldable pub got_tests : List ℕ → List Test
+unfoldable pub got_tests : List ℕ → List ElfTest
 got_tests bytes =
-    refuses NoGot (dynamic_offset_or bytes 28) (not (option_map_or (is_got_place (loads bytes)) (got bytes) false))
+    refuses NoGot (dynamic_offset_or bytes E_PHOFF) (not (option_map_or (is_got_place (loads bytes)) (got bytes) false))
     ∷ []
 
 abbrev pub got_or_zero : List ℕ → ℕ
@@ -67,7 +67,7 @@ all_rel_entries bytes = rel.all_rel_entries bytes (loads bytes) (entries bytes)
 unfoldable pub fixups : List ℕ → Option (List ℕ)
 fixups bytes = option_map (fixups_of bytes) (rofixup bytes)
 
-unfoldable pub all_fixup_tests : List ℕ → List Test
+unfoldable pub all_fixup_tests : List ℕ → List ElfTest
 all_fixup_tests bytes = of_some (rofixup bytes) (λ i.
     rel.fixup_tests (loads bytes) (got_or_zero bytes) (all_rel_entries bytes) (rofixup_offset bytes i 0) (fixups_of bytes i))
 

@@ -1,3 +1,6 @@
+pub mod Hashed
+pub mod Inits
+pub mod Filled
 pub mod Test
 pub mod Header
 pub mod Segments
@@ -9,5 +12,8 @@ pub mod Relocations
 pub mod Fields
 pub mod Object
 pub mod Places
-pub mod Plain
+pub mod RelSections
+pub mod RelSymbols
+pub mod RelEntries
+pub mod Relocatable
 pub mod Sound

@@ -1,8 +1,9 @@
 -- What it means that bytes are an executable or a shared object, and why others are none.
 use Rattle.std.specs.Prelude.{◌≡◌, ℕ, List, ◌++◌, Option, Some, None}
+use Rattle.elf_model.specs.declared.constants.TheConstants.{E_PHOFF}
 use Rattle.elf_model.specs.declared.refusal.ElfRefusal.{ElfRefusal}
 use Rattle.elf_model.specs.declared.object.Object.{Object}
-use Rattle.elf_model.specs.Test.{Test, first_failing}
+use Rattle.elf_model.specs.Test.{ElfTest, first_failing}
 use Rattle.elf_model.specs.Header.{header_tests, kind, e_entry}
 use Rattle.elf_model.specs.Segments.{loads, segments, segment_tests, some_segment_tests}
 use Rattle.elf_model.specs.Sections.{rofixup_tests}
@@ -14,11 +15,11 @@ use Rattle.elf_model.specs.Fields as field
 -- ---- the tests in their order
 
 -- the program headers, and that some segment is left
-unfoldable pub all_segment_tests : List ℕ → List Test
+unfoldable pub all_segment_tests : List ℕ → List ElfTest
 all_segment_tests bytes = segment_tests bytes ++ some_segment_tests bytes
 
 -- the dynamic section and its entries, the list of fixups, and the GOT
-unfoldable pub dynamic_tests : List ℕ → List Test
+unfoldable pub dynamic_tests : List ℕ → List ElfTest
 dynamic_tests bytes =
     dynamic_range_tests bytes (loads bytes)
     ++ (all_entry_tests (field.entries bytes)
@@ -26,22 +27,22 @@ dynamic_tests bytes =
     ++ field.got_tests bytes))
 
 -- the strings, the symbols, and the names of objects
-unfoldable pub name_tests : List ℕ → List Test
+unfoldable pub name_tests : List ℕ → List ElfTest
 name_tests bytes =
     string_tests bytes (loads bytes) (field.entries bytes)
-    ++ (count_tests bytes (loads bytes) (field.entries bytes) (dynamic_offset_or bytes 28)
+    ++ (count_tests bytes (loads bytes) (field.entries bytes) (dynamic_offset_or bytes E_PHOFF)
     ++ (all_symbol_tests bytes (loads bytes) (field.strings bytes) (field.symbols_offset bytes) (field.symbol_count bytes)
     ++ (needed_tests (field.strings bytes) (field.entries bytes)
     ++ soname_tests (field.strings bytes) (field.entries bytes))))
 
 -- the tables of relocations, their entries, and the fixups
-unfoldable pub relocation_tests : List ℕ → List Test
+unfoldable pub relocation_tests : List ℕ → List ElfTest
 relocation_tests bytes =
     both_table_tests (loads bytes) (field.entries bytes)
     ++ (all_rel_tests (loads bytes) (field.symbol_count bytes) (field.got_or_zero bytes) (field.all_rel_entries bytes)
     ++ field.all_fixup_tests bytes)
 
-unfoldable pub tests : List ℕ → List Test
+unfoldable pub tests : List ℕ → List ElfTest
 tests bytes =
     header_tests bytes
     ++ (all_segment_tests bytes

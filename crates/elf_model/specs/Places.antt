@@ -1,6 +1,8 @@
 -- Where things lie in an object.
-use Rattle.std.specs.Prelude.{ℕ, ◌+◌, ◌-◌, Bool, ◌&&◌, nat_le, nat_lt, List, [], ◌∷◌, ◌++◌, map, slice_index, slice_get, Option, unwrap_or, if◌then◌else◌}
+use Rattle.std.specs.Prelude.{ℕ, ◌+◌, ◌-◌, Bool, ◌&&◌, List, [], ◌∷◌, ◌++◌, map, slice_index, slice_get, Option, unwrap_or, if◌then◌else◌}
 use Rattle.std.specs.List.{list_any}
+use Rattle.fd_base.specs.Ranges as range
+use Rattle.fd_base.specs.Ranges.{is_in}
 use Rattle.fd_base.specs.Words.{word_in}
 use Rattle.elf_model.specs.declared.object.Object.{Object}
 use Rattle.elf_model.specs.declared.object.Rel.{Rel}
@@ -12,7 +14,7 @@ use Rattle.elf_model.specs.Relocations.{site_size, word_site, got_header}
 
 -- whether a link address is held in a segment: in its memory
 abbrev pub is_held_in : Segment → ℕ → Bool
-is_held_in s v = nat_le s.vaddr v && nat_lt v (s.vaddr + s.memsz)
+is_held_in s v = is_in s.vaddr s.memsz v
 
 -- the file's byte at a link address, and zero past the file's bytes of the segment that holds it
 abbrev pub file_byte : List Segment → ℕ → ℕ
@@ -25,19 +27,25 @@ file_word ss v = word_in (file_byte ss v ∷ file_byte ss (v + 1) ∷ file_byte 
 
 -- whether n bytes at a link address are in the memory of a segment
 abbrev pub spans : Segment → ℕ → ℕ → Bool
-spans s v n = nat_le s.vaddr v && nat_le (v + n) (s.vaddr + s.memsz)
+spans s v n = range.spans s.vaddr s.memsz v n
+
+abbrev pub is_writable : Segment → Bool
+is_writable s = has_flag s.flags PF_W
+
+abbrev pub is_executable : Segment → Bool
+is_executable s = has_flag s.flags PF_X
 
 -- whether n bytes at a link address are in the memory of one writable segment
 abbrev pub is_writable_in : List Segment → ℕ → ℕ → Bool
-is_writable_in ss v n = list_any (λ s. has_flag s.flags PF_W && spans s v n) ss
+is_writable_in ss v n = list_any (λ s. is_writable s && spans s v n) ss
 
 -- whether a link address is held in an executable segment
 abbrev pub is_executable_in : List Segment → ℕ → Bool
-is_executable_in ss v = list_any (λ s. has_flag s.flags PF_X && is_held_in s v) ss
+is_executable_in ss v = list_any (λ s. is_executable s && is_held_in s v) ss
 
 -- whether a link address is among the bytes that a relocation fills
 abbrev pub covers : Rel → ℕ → Bool
-covers r v = nat_le r.site v && nat_lt v (r.site + site_size r.kind)
+covers r v = is_in r.site (site_size r.kind) v
 
 abbrev pub site_of_rel : Rel → Site
 site_of_rel r = record { addr = r.site; size = site_size r.kind }

@@ -1,10 +1,11 @@
 -- The relocations and fixups of an object (gABI, "Relocation"; the kinds by ELF for the Arm Architecture and the Arm
 -- FDPIC ABI).
-use Rattle.std.specs.Prelude.{ℕ, ◌+◌, ◌*◌, ◌/◌, ◌%◌, Bool, false, not, ◌&&◌, ◌||◌, ◌==◌, nat_lt, nat_le, List, [], ◌∷◌, ◌++◌, map, filter, take, Option, None, option_and_then, is_none, unwrap_or, if◌then◌else◌}
+use Rattle.std.specs.Prelude.{ℕ, ◌+◌, ◌*◌, ◌/◌, ◌%◌, Bool, false, not, ◌&&◌, ◌||◌, ◌==◌, nat_lt, List, [], ◌∷◌, ◌++◌, map, filter, take, Option, None, option_and_then, is_none, unwrap_or, if◌then◌else◌}
 use Rattle.std.specs.Option.{option_map_or}
 use Rattle.std.specs.List.{list_any, range_with_len}
+use Rattle.fd_base.specs.Ranges.{spans}
 use Rattle.fd_base.specs.Words.{word_in}
-use Rattle.elf_model.specs.declared.constants.TheConstants.{REL_SIZE, DT_REL, DT_RELSZ, DT_JMPREL, DT_PLTRELSZ, R_ARM_NONE, R_ARM_ABS32, R_ARM_REL32, R_ARM_GLOB_DAT, R_ARM_RELATIVE, R_ARM_FUNCDESC, R_ARM_FUNCDESC_VALUE, MAX_ENTRIES}
+use Rattle.elf_model.specs.declared.constants.TheConstants.{R_OFFSET, R_INFO, GOT_HEADER_SIZE, REL_SIZE, DT_REL, DT_RELSZ, DT_JMPREL, DT_PLTRELSZ, R_ARM_NONE, R_ARM_ABS32, R_ARM_REL32, R_ARM_GLOB_DAT, R_ARM_RELATIVE, R_ARM_FUNCDESC, R_ARM_FUNCDESC_VALUE, MAX_ENTRIES}
 use Rattle.elf_model.specs.declared.refusal.ElfKind.TheVariants.{Table, TooMany, RelocType, SiteRange, SiteOverlap}
 use Rattle.elf_model.specs.declared.table.ProgramHeader.{ProgramHeader}
 use Rattle.elf_model.specs.declared.table.DynEntry.{DynEntry}
@@ -13,7 +14,7 @@ use Rattle.elf_model.specs.declared.table.RelTable.TheVariants.{Rel as InRel, Jm
 use Rattle.elf_model.specs.declared.table.RelEntry.{RelEntry}
 use Rattle.elf_model.specs.declared.table.Site.{Site}
 use Rattle.elf_model.specs.declared.object.Rel.{Rel}
-use Rattle.elf_model.specs.Test.{Test, refuses, only_where, of_some, each_from}
+use Rattle.elf_model.specs.Test.{ElfTest, refuses, only_where, of_some, each_from}
 use Rattle.elf_model.specs.Segments.{held_at, is_writable_at}
 use Rattle.elf_model.specs.Dynamic.{first_of, value_of}
 
@@ -24,13 +25,13 @@ use Rattle.elf_model.specs.Dynamic.{first_of, value_of}
 unfoldable pub rel_table_at : List ProgramHeader → ℕ → Option ℕ → Option ℕ
 rel_table_at loads addr size = option_and_then (λ n. if n % REL_SIZE == 0 then held_at loads addr n else None) size
 
-unfoldable pub rel_table_tests : List ProgramHeader → List DynEntry → ℕ → ℕ → List Test
+unfoldable pub rel_table_tests : List ProgramHeader → List DynEntry → ℕ → ℕ → List ElfTest
 rel_table_tests loads entries table_tag size_tag = of_some (first_of table_tag entries) (λ e.
     refuses Table e.offset (is_none (rel_table_at loads e.value (value_of size_tag entries)))
     ∷ refuses TooMany e.offset (nat_lt MAX_ENTRIES (unwrap_or (value_of size_tag entries) 0 / REL_SIZE))
     ∷ [])
 
-unfoldable pub both_table_tests : List ProgramHeader → List DynEntry → List Test
+unfoldable pub both_table_tests : List ProgramHeader → List DynEntry → List ElfTest
 both_table_tests loads entries =
     rel_table_tests loads entries DT_REL DT_RELSZ ++ rel_table_tests loads entries DT_JMPREL DT_PLTRELSZ
 
@@ -39,16 +40,15 @@ unfoldable pub rel_entry : List ℕ → RelTable → ℕ → RelEntry
 rel_entry bytes table offset = record {
   table = table;
   offset = offset;
-  site = word_in bytes offset;
-  kind = word_in bytes (offset + 4) % 256;
-  symbol = word_in bytes (offset + 4) / 256;
+  site = word_in bytes (offset + R_OFFSET);
+  kind = word_in bytes (offset + R_INFO) % 256;
+  symbol = word_in bytes (offset + R_INFO) / 256;
 }
 
 -- whether the entry at a link address lies inside the range of the slots' relocations
 unfoldable pub is_slot_entry : List DynEntry → ℕ → Bool
-is_slot_entry entries addr = option_map_or (λ first.
-    nat_le first addr && nat_le (addr + REL_SIZE) (first + unwrap_or (value_of DT_PLTRELSZ entries) 0))
-    (value_of DT_JMPREL entries) false
+is_slot_entry entries addr =
+    option_map_or (λ first. spans first (unwrap_or (value_of DT_PLTRELSZ entries) 0) addr REL_SIZE) (value_of DT_JMPREL entries) false
 
 -- which entries of DT_REL count as its own: a table may reach over that of the slots
 abbrev pub own_places : List DynEntry → ℕ → ℕ → List ℕ
@@ -90,7 +90,7 @@ word_site addr = record { addr = addr; size = 4 }
 
 -- the three words of the GOT that the loader fills
 abbrev pub got_header : ℕ → Site
-got_header got = record { addr = got; size = 12 }
+got_header got = record { addr = got; size = GOT_HEADER_SIZE }
 
 -- whether two sites have a byte in common
 unfoldable pub meets : Site → Site → Bool
@@ -101,7 +101,7 @@ unfoldable pub is_in_place : List ProgramHeader → Site → Bool
 is_in_place loads s = s.addr % 4 == 0 && is_writable_at loads s.addr s.size
 
 -- the tests of a site that is named at an offset of the file, with the sites before it
-unfoldable pub site_tests : List ProgramHeader → List Site → ℕ → Site → List Test
+unfoldable pub site_tests : List ProgramHeader → List Site → ℕ → Site → List ElfTest
 site_tests loads earlier offset s =
     refuses SiteRange offset (not (is_in_place loads s))
     ∷ refuses SiteOverlap offset (list_any (λ e. meets s e) earlier)
@@ -124,7 +124,7 @@ fills e = not (e.kind == R_ARM_NONE)
 abbrev pub sites_of : List RelEntry → List Site
 sites_of entries = map site_of (filter fills entries)
 
-unfoldable pub rel_entry_tests : List ProgramHeader → ℕ → List Site → RelEntry → List Test
+unfoldable pub rel_entry_tests : List ProgramHeader → ℕ → List Site → RelEntry → List ElfTest
 rel_entry_tests loads symbol_count earlier e =
     refuses RelocType e.offset (not (is_kind_of e.table e.kind))
     ∷ refuses Table e.offset (not (e.symbol == 0 || nat_lt e.symbol symbol_count))
@@ -134,7 +134,7 @@ rel_entry_tests loads symbol_count earlier e =
 abbrev pub sites_before : ℕ → List RelEntry → ℕ → List Site
 sites_before got entries k = got_header got ∷ sites_of (take k entries)
 
-unfoldable pub all_rel_tests : List ProgramHeader → ℕ → ℕ → List RelEntry → List Test
+unfoldable pub all_rel_tests : List ProgramHeader → ℕ → ℕ → List RelEntry → List ElfTest
 all_rel_tests loads symbol_count got entries =
     each_from 0 (λ k e. rel_entry_tests loads symbol_count (sites_before got entries k) e) entries
 
@@ -143,7 +143,7 @@ abbrev pub sites_before_fixup : ℕ → List RelEntry → List ℕ → ℕ → L
 sites_before_fixup got entries fixups k = got_header got ∷ sites_of entries ++ map word_site (take k fixups)
 
 -- the tests of the fixups, which stand in the file from an offset on
-unfoldable pub fixup_tests : List ProgramHeader → ℕ → List RelEntry → ℕ → List ℕ → List Test
+unfoldable pub fixup_tests : List ProgramHeader → ℕ → List RelEntry → ℕ → List ℕ → List ElfTest
 fixup_tests loads got entries offset fixups =
     each_from 0 (λ k addr. site_tests loads (sites_before_fixup got entries fixups k) (offset + 4 * k) (word_site addr)) fixups
 

@@ -5,10 +5,10 @@ use Rattle.std.specs.Option.{option_map_or}
 use Rattle.std.specs.List.{range_with_len}
 use lib.Pointwise.{pointwise}
 use Rattle.fd_base.specs.Words.{word_in}
-use Rattle.elf_model.specs.declared.constants.TheConstants.{SHDR_SIZE, SYM_SIZE, SHT_DYNSYM}
+use Rattle.elf_model.specs.declared.constants.TheConstants.{SH_NAME, SH_TYPE, SH_FLAGS, SH_ADDR, SH_OFFSET, SH_SIZE, SH_LINK, SH_INFO, SH_ADDRALIGN, SHDR_SIZE, SYM_SIZE, SHT_DYNSYM}
 use Rattle.elf_model.specs.declared.refusal.ElfKind.TheVariants.{Table}
 use Rattle.elf_model.specs.declared.table.SectionHeader.{SectionHeader}
-use Rattle.elf_model.specs.Test.{Test, refuses, of_some}
+use Rattle.elf_model.specs.Test.{ElfTest, refuses, of_some}
 use Rattle.elf_model.specs.Header.{e_shoff, e_shnum, e_shstrndx, passes_end}
 use Rattle.elf_model.specs.Strings.{text_at}
 
@@ -18,15 +18,15 @@ section_offset bytes i = e_shoff bytes + SHDR_SIZE * i
 
 unfoldable pub section_header : List ℕ → ℕ → SectionHeader
 section_header bytes i = record {
-  name = word_in bytes (section_offset bytes i);
-  kind = word_in bytes (section_offset bytes i + 4);
-  flags = word_in bytes (section_offset bytes i + 8);
-  addr = word_in bytes (section_offset bytes i + 12);
-  offset = word_in bytes (section_offset bytes i + 16);
-  size = word_in bytes (section_offset bytes i + 20);
-  link = word_in bytes (section_offset bytes i + 24);
-  info = word_in bytes (section_offset bytes i + 28);
-  align = word_in bytes (section_offset bytes i + 32);
+  name = word_in bytes (section_offset bytes i + SH_NAME);
+  kind = word_in bytes (section_offset bytes i + SH_TYPE);
+  flags = word_in bytes (section_offset bytes i + SH_FLAGS);
+  addr = word_in bytes (section_offset bytes i + SH_ADDR);
+  offset = word_in bytes (section_offset bytes i + SH_OFFSET);
+  size = word_in bytes (section_offset bytes i + SH_SIZE);
+  link = word_in bytes (section_offset bytes i + SH_LINK);
+  info = word_in bytes (section_offset bytes i + SH_INFO);
+  align = word_in bytes (section_offset bytes i + SH_ADDRALIGN);
 }
 
 -- the section headers
@@ -55,7 +55,7 @@ rofixup_place bytes = position (is_named (section_names bytes) (codes ".rofixup"
 unfoldable pub rofixup : List ℕ → Option ℕ
 rofixup bytes = option_and_then (λ i. if nat_lt 0 (section_header bytes i).size then Some i else None) (rofixup_place bytes)
 
-unfoldable pub rofixup_tests : List ℕ → List Test
+unfoldable pub rofixup_tests : List ℕ → List ElfTest
 rofixup_tests bytes = of_some (rofixup bytes) (λ i.
     refuses Table (section_offset bytes i) (
     passes_end bytes (section_header bytes i).offset (section_header bytes i).size

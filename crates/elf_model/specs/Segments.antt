@@ -2,12 +2,13 @@
 use Rattle.std.specs.Prelude.{ℕ, ◌+◌, ◌-◌, ◌*◌, ◌^◌, Bool, not, ◌&&◌, ◌||◌, ◌==◌, nat_lt, nat_le, List, [], ◌∷◌, length, map, filter, find, slice_range, Option, Some, option_map, bit_and, ◌≤◌, if◌then◌else◌}
 use Rattle.std.specs.List.{list_any, range_with_len}
 use Rattle.std.specs.Int.{is_power_of_two}
+use Rattle.fd_base.specs.Ranges.{spans}
 use Rattle.fd_base.specs.Words.{word_in}
-use Rattle.elf_model.specs.declared.constants.TheConstants.{PHDR_SIZE, PT_LOAD, PT_TLS, PF_X, PF_W, MAX_SEGMENTS}
+use Rattle.elf_model.specs.declared.constants.TheConstants.{P_TYPE, P_OFFSET, P_VADDR, P_FILESZ, P_MEMSZ, P_FLAGS, P_ALIGN, E_PHNUM, PHDR_SIZE, PT_LOAD, PT_TLS, PF_X, PF_W, MAX_SEGMENTS}
 use Rattle.elf_model.specs.declared.refusal.ElfKind.TheVariants.{Header, SegmentRange, SegmentOverlap, TooMany, Tls}
 use Rattle.elf_model.specs.declared.table.ProgramHeader.{ProgramHeader}
 use Rattle.elf_model.specs.declared.object.Segment.{Segment}
-use Rattle.elf_model.specs.Test.{Test, refuses, only_where, each_below}
+use Rattle.elf_model.specs.Test.{ElfTest, refuses, only_where, each_below}
 use Rattle.elf_model.specs.Header.{e_phoff, e_phnum}
 
 -- where program header i stands
@@ -16,13 +17,13 @@ header_offset bytes i = e_phoff bytes + PHDR_SIZE * i
 
 unfoldable pub program_header : List ℕ → ℕ → ProgramHeader
 program_header bytes i = record {
-  kind = word_in bytes (header_offset bytes i);
-  offset = word_in bytes (header_offset bytes i + 4);
-  vaddr = word_in bytes (header_offset bytes i + 8);
-  filesz = word_in bytes (header_offset bytes i + 16);
-  memsz = word_in bytes (header_offset bytes i + 20);
-  flags = word_in bytes (header_offset bytes i + 24);
-  align = word_in bytes (header_offset bytes i + 28);
+  kind = word_in bytes (header_offset bytes i + P_TYPE);
+  offset = word_in bytes (header_offset bytes i + P_OFFSET);
+  vaddr = word_in bytes (header_offset bytes i + P_VADDR);
+  filesz = word_in bytes (header_offset bytes i + P_FILESZ);
+  memsz = word_in bytes (header_offset bytes i + P_MEMSZ);
+  flags = word_in bytes (header_offset bytes i + P_FLAGS);
+  align = word_in bytes (header_offset bytes i + P_ALIGN);
 }
 
 -- the first n program headers
@@ -54,7 +55,7 @@ unfoldable pub memory_meets : ProgramHeader → ProgramHeader → Bool
 memory_meets a b = nat_lt a.vaddr (b.vaddr + b.memsz) && nat_lt b.vaddr (a.vaddr + a.memsz)
 
 -- the tests of a program header that stands at an offset of a file of len bytes, with the segments before it
-unfoldable pub program_header_tests : ℕ → ℕ → ProgramHeader → List ProgramHeader → List Test
+unfoldable pub program_header_tests : ℕ → ℕ → ProgramHeader → List ProgramHeader → List ElfTest
 program_header_tests len offset h earlier =
     refuses Tls offset (h.kind == PT_TLS && nat_lt 0 h.memsz)
     ∷ only_where (is_load h) (
@@ -63,15 +64,15 @@ program_header_tests len offset h earlier =
     ∷ refuses SegmentOverlap offset (list_any (λ e. memory_meets h e) earlier)
     ∷ [])
 
-abbrev pub program_header_test : List ℕ → ℕ → List Test
+abbrev pub program_header_test : List ℕ → ℕ → List ElfTest
 program_header_test bytes i =
     program_header_tests (length bytes) (header_offset bytes i) (program_header bytes i) (loads_below bytes i)
 
-unfoldable pub segment_tests : List ℕ → List Test
+unfoldable pub segment_tests : List ℕ → List ElfTest
 segment_tests bytes = each_below (e_phnum bytes) (program_header_test bytes)
 
-unfoldable pub some_segment_tests : List ℕ → List Test
-some_segment_tests bytes = refuses Header 44 (length (loads bytes) == 0) ∷ []
+unfoldable pub some_segment_tests : List ℕ → List ElfTest
+some_segment_tests bytes = refuses Header E_PHNUM (length (loads bytes) == 0) ∷ []
 
 -- ---- the segments themselves
 
@@ -91,7 +92,7 @@ segments bytes = map (segment bytes) (loads bytes)
 
 -- whether n bytes at a link address are among the file's bytes of this segment
 unfoldable pub holds : ProgramHeader → ℕ → ℕ → Bool
-holds h addr n = nat_le h.vaddr addr && nat_le (addr + n) (h.vaddr + h.filesz)
+holds h addr n = spans h.vaddr h.filesz addr n
 
 -- The offset in the file of n bytes at a link address that are held: among the file's bytes of one segment. No
 -- bytes are held wherever they stand.
@@ -102,7 +103,7 @@ held_at loads addr n =
 
 -- whether n bytes at a link address are in the memory of this segment
 abbrev pub is_in_memory : ProgramHeader → ℕ → ℕ → Bool
-is_in_memory h addr n = nat_le h.vaddr addr && nat_le (addr + n) (h.vaddr + h.memsz)
+is_in_memory h addr n = spans h.vaddr h.memsz addr n
 
 abbrev pub has_flag : ℕ → ℕ → Bool
 has_flag flags flag = not (bit_and flags flag == 0)

@@ -4,7 +4,7 @@ use Rattle.std.specs.Prelude.{ℕ, ◌+◌, ◌*◌, ◌-◌, ◌/◌, ◌%◌, 
 use Rattle.std.specs.Option.{option_map_or}
 use Rattle.std.specs.List.{range_with_len}
 use Rattle.fd_base.specs.Words.{word_in, half_in}
-use Rattle.elf_model.specs.declared.constants.TheConstants.{SYM_SIZE, DT_HASH, DT_SYMTAB, STT_NOTYPE, STT_FUNC, STT_TLS, STB_LOCAL, STV_DEFAULT, SHN_UNDEF, SHN_ABS, SHN_COMMON, MAX_ENTRIES}
+use Rattle.elf_model.specs.declared.constants.TheConstants.{ST_NAME, ST_VALUE, ST_SIZE, ST_INFO, ST_OTHER, ST_SHNDX, HASH_NCHAIN, SYM_SIZE, DT_HASH, DT_SYMTAB, STT_NOTYPE, STT_FUNC, STT_TLS, STB_LOCAL, STV_DEFAULT, SHN_UNDEF, SHN_ABS, SHN_COMMON, MAX_ENTRIES}
 use Rattle.elf_model.specs.declared.refusal.ElfKind.TheVariants.{Table, NoCount, TooMany, NameRange, Tls, Thumb, FunctionPlace}
 use Rattle.elf_model.specs.declared.table.ProgramHeader.{ProgramHeader}
 use Rattle.elf_model.specs.declared.table.DynEntry.{DynEntry}
@@ -12,7 +12,7 @@ use Rattle.elf_model.specs.declared.table.SymbolEntry.{SymbolEntry}
 use Rattle.elf_model.specs.declared.object.Place.{Place}
 use Rattle.elf_model.specs.declared.object.Place.TheVariants.{Undefined, Absolute, Here}
 use Rattle.elf_model.specs.declared.object.Symbol.{Symbol}
-use Rattle.elf_model.specs.Test.{Test, refuses, only_where, of_some, each_below}
+use Rattle.elf_model.specs.Test.{ElfTest, refuses, only_where, of_some, each_below}
 use Rattle.elf_model.specs.Segments.{held_at, is_executable_at}
 use Rattle.elf_model.specs.Strings.{string_at, name_at}
 use Rattle.elf_model.specs.Sections.{section_symbol_count}
@@ -22,7 +22,7 @@ use Rattle.elf_model.specs.Dynamic.{first_of}
 
 -- The number that the hash table gives: its second word, of its chains. None where its first two words aren't held.
 unfoldable pub hash_symbol_count : List ℕ → List ProgramHeader → DynEntry → Option ℕ
-hash_symbol_count bytes loads hash = option_map (λ at. word_in bytes (at + 4)) (held_at loads hash.value 8)
+hash_symbol_count bytes loads hash = option_map (λ at. word_in bytes (at + HASH_NCHAIN)) (held_at loads hash.value 8)
 
 -- the number of symbols at this link address: by the hash table, or else by the section that has them
 unfoldable pub count_of : List ℕ → List ProgramHeader → List DynEntry → ℕ → Option ℕ
@@ -30,13 +30,13 @@ count_of bytes loads entries addr =
     option_map_or (hash_symbol_count bytes loads) (first_of DT_HASH entries) (section_symbol_count bytes addr)
 
 -- a hash table is held as far as it is read
-unfoldable pub hash_tests : List ℕ → List ProgramHeader → List DynEntry → List Test
+unfoldable pub hash_tests : List ℕ → List ProgramHeader → List DynEntry → List ElfTest
 hash_tests bytes loads entries = of_some (first_of DT_HASH entries) (λ hash.
     refuses Table hash.offset (is_none (held_at loads hash.value 8))
     ∷ [])
 
 -- the tests of the table of symbols, where the dynamic section's header stands at an offset
-unfoldable pub symbol_table_tests : List ℕ → List ProgramHeader → List DynEntry → ℕ → DynEntry → List Test
+unfoldable pub symbol_table_tests : List ℕ → List ProgramHeader → List DynEntry → ℕ → DynEntry → List ElfTest
 symbol_table_tests bytes loads entries dynamic table =
     let count = count_of bytes loads entries table.value in
     hash_tests bytes loads entries
@@ -45,7 +45,7 @@ symbol_table_tests bytes loads entries dynamic table =
     ∷ refuses Table table.offset (is_none (held_at loads table.value (SYM_SIZE * unwrap_or count 0)))
     ∷ [])
 
-unfoldable pub count_tests : List ℕ → List ProgramHeader → List DynEntry → ℕ → List Test
+unfoldable pub count_tests : List ℕ → List ProgramHeader → List DynEntry → ℕ → List ElfTest
 count_tests bytes loads entries dynamic = of_some (first_of DT_SYMTAB entries) (symbol_table_tests bytes loads entries dynamic)
 
 -- the number of symbols, 0 where there is no table of them
@@ -64,12 +64,12 @@ symbols_offset loads entries count =
 unfoldable pub symbol_entry : List ℕ → ℕ → SymbolEntry
 symbol_entry bytes offset = record {
   offset = offset;
-  name = word_in bytes offset;
-  value = word_in bytes (offset + 4);
-  size = word_in bytes (offset + 8);
-  info = slice_index bytes (offset + 12);
-  other = slice_index bytes (offset + 13);
-  section = half_in bytes (offset + 14);
+  name = word_in bytes (offset + ST_NAME);
+  value = word_in bytes (offset + ST_VALUE);
+  size = word_in bytes (offset + ST_SIZE);
+  info = slice_index bytes (offset + ST_INFO);
+  other = slice_index bytes (offset + ST_OTHER);
+  section = half_in bytes (offset + ST_SHNDX);
 }
 
 abbrev pub binding_of : SymbolEntry → ℕ
@@ -89,7 +89,7 @@ is_defined_function e = type_of e == STT_FUNC && not (e.section == SHN_UNDEF)
 unfoldable pub has_function_place : List ProgramHeader → SymbolEntry → Bool
 has_function_place loads e = not (e.section == SHN_ABS) && (e.value % 4 == 0 && is_executable_at loads e.value)
 
-unfoldable pub symbol_tests : List ProgramHeader → List ℕ → SymbolEntry → List Test
+unfoldable pub symbol_tests : List ProgramHeader → List ℕ → SymbolEntry → List ElfTest
 symbol_tests loads strings e =
     refuses NameRange e.offset (is_none (string_at strings e.name))
     ∷ refuses Tls e.offset (type_of e == STT_TLS)
@@ -104,7 +104,7 @@ abbrev pub symbol_entry_of : List ℕ → ℕ → ℕ → SymbolEntry
 symbol_entry_of bytes first i = symbol_entry bytes (first + SYM_SIZE * i)
 
 -- Each symbol of count but the first. Symbol 0 is the null symbol, whatever its bytes.
-unfoldable pub all_symbol_tests : List ℕ → List ProgramHeader → List ℕ → ℕ → ℕ → List Test
+unfoldable pub all_symbol_tests : List ℕ → List ProgramHeader → List ℕ → ℕ → ℕ → List ElfTest
 all_symbol_tests bytes loads strings first count =
     each_below (count - 1) (λ k. symbol_tests loads strings (symbol_entry_of bytes first (k + 1)))
 

@@ -3,10 +3,39 @@
 
 /// The machine number of Arm.
 pub const EM_ARM: u16 = 40;
+/// The OS/ABI byte of files that name none.
+pub const ELFOSABI_NONE: u8 = 0;
 /// The OS/ABI byte of Arm FDPIC objects.
 pub const ELFOSABI_ARM_FDPIC: u8 = 65;
 /// The EABI version, which stands in the top byte of e_flags.
 pub const EF_ARM_EABI_VERSION: u8 = 5;
+
+/// Where a field of the ELF header stands, in bytes from the start of the file: the OS/ABI.
+pub const EI_OSABI: u32 = 7;
+/// As above: the type of the file.
+pub const E_TYPE: u32 = 16;
+/// As above: the machine.
+pub const E_MACHINE: u32 = 18;
+/// As above: the version of the format.
+pub const E_VERSION: u32 = 20;
+/// As above: the link address at which a program begins.
+pub const E_ENTRY: u32 = 24;
+/// As above: the offset of the program headers.
+pub const E_PHOFF: u32 = 28;
+/// As above: the offset of the section headers.
+pub const E_SHOFF: u32 = 32;
+/// As above: flags of the processor.
+pub const E_FLAGS: u32 = 36;
+/// As above: the size of a program header, in bytes.
+pub const E_PHENTSIZE: u32 = 42;
+/// As above: how many program headers there are.
+pub const E_PHNUM: u32 = 44;
+/// As above: the size of a section header, in bytes.
+pub const E_SHENTSIZE: u32 = 46;
+/// As above: how many section headers there are.
+pub const E_SHNUM: u32 = 48;
+/// As above: which section has the names of the sections.
+pub const E_SHSTRNDX: u32 = 50;
 
 /// A relocatable file.
 pub const ET_REL: u16 = 1;
@@ -27,6 +56,69 @@ pub const SYM_SIZE: u32 = 16;
 pub const REL_SIZE: u32 = 8;
 /// The size of a dynamic entry, in bytes.
 pub const DYN_SIZE: u32 = 8;
+
+/// Where a field stands in a program header, in bytes from its start: the kind.
+pub const P_TYPE: usize = 0;
+/// As above: the offset of the segment's bytes in the file.
+pub const P_OFFSET: usize = 4;
+/// As above: the link address.
+pub const P_VADDR: usize = 8;
+/// As above: how many bytes the file has.
+pub const P_FILESZ: usize = 16;
+/// As above: how many bytes there are in memory.
+pub const P_MEMSZ: usize = 20;
+/// As above: `PF_R`, `PF_W` and `PF_X`.
+pub const P_FLAGS: usize = 24;
+/// As above: the alignment, in bytes.
+pub const P_ALIGN: usize = 28;
+
+/// Where a field stands in a section header, in bytes from its start: the place of the name in the strings.
+pub const SH_NAME: usize = 0;
+/// As above: the kind.
+pub const SH_TYPE: usize = 4;
+/// As above: `SHF_WRITE` and the like.
+pub const SH_FLAGS: usize = 8;
+/// As above: the link address.
+pub const SH_ADDR: usize = 12;
+/// As above: the offset of the section's bytes in the file.
+pub const SH_OFFSET: usize = 16;
+/// As above: the size, in bytes.
+pub const SH_SIZE: usize = 20;
+/// As above: the section that this one goes with.
+pub const SH_LINK: usize = 24;
+/// As above: a number or a section, by the kind.
+pub const SH_INFO: usize = 28;
+/// As above: the alignment, in bytes.
+pub const SH_ADDRALIGN: usize = 32;
+
+/// Where a field stands in a symbol, in bytes from its start: the place of the name in the strings.
+pub const ST_NAME: usize = 0;
+/// As above: the value.
+pub const ST_VALUE: usize = 4;
+/// As above: the size, in bytes.
+pub const ST_SIZE: usize = 8;
+/// As above: the byte of the binding and the type.
+pub const ST_INFO: usize = 12;
+/// As above: the byte of the visibility.
+pub const ST_OTHER: usize = 13;
+/// As above: the section.
+pub const ST_SHNDX: usize = 14;
+
+/// Where a field stands in a dynamic entry, in bytes from its start: the tag.
+pub const D_TAG: usize = 0;
+/// As above: the value.
+pub const D_VAL: usize = 4;
+
+/// Where a field stands in a relocation entry, in bytes from its start: the site.
+pub const R_OFFSET: usize = 0;
+/// As above: the word of the symbol's number and the kind.
+pub const R_INFO: usize = 4;
+
+/// Where the number of chains stands in a hash table, in bytes from its start.
+pub const HASH_NCHAIN: usize = 4;
+
+/// The size of the words of the GOT that loading fills, which are its first, in bytes.
+pub const GOT_HEADER_SIZE: u32 = 12;
 
 /// A loadable segment.
 pub const PT_LOAD: u32 = 1;
@@ -221,5 +313,11 @@ pub const R_ARM_FUNCDESC_VALUE: u8 = 164;
 pub const MAX_SEGMENTS: usize = 8;
 /// The most symbols, DT_REL entries and JMPREL entries of an object, each by itself.
 pub const MAX_ENTRIES: usize = 65_536;
+/// The largest alignment of a kept section of a relocatable file, in bytes.
+pub const MAX_SECTION_ALIGN: u32 = 4096;
+/// The most bytes of a kept section of a relocatable file, and of all of them in the file.
+pub const MAX_SECTION_BYTES: u32 = 4_194_304;
+/// The most relocations of all kept sections of a relocatable file.
+pub const MAX_SECTIONS_ENTRIES: u32 = 524_288;
 /// The most needed names of an object.
 pub const MAX_NEEDED: usize = 64;

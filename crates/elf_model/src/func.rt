@@ -1,6 +1,10 @@
-/// A function: the number of its module, and its link address in that module.
+//! Functions of modules.
+
+/// A function.
 #[derive(Clone, Copy, Debug, PartialEq, Eq, PartialOrd, Ord)]
 pub struct Func {
+    /// The number of its module.
     pub module: u32,
+    /// Its link address in that module.
     pub value: u32,
 }

@@ -3,12 +3,14 @@
 #![tactic(auto)]
 
 pub mod constants;
+mod filled;
 mod func;
 mod laws;
 mod object;
 mod places;
 mod refusal;
 mod relocatable;
+mod symbol_hash;
 mod table;
 
 pub use func::Func;
@@ -19,4 +21,5 @@ pub use object::{
 pub use places::{file_word, is_executable_in};
 pub use refusal::{ElfKind, ElfRefusal};
 pub use relocatable::{RelObject, RelObjects, RelSection, RelSections};
+pub use symbol_hash::hash;
 pub use table::{DynEntry, ProgramHeader, RelEntry, RelTable, SectionHeader, Site, SymbolEntry};

@@ -1,5 +1,8 @@
 //! Executables and shared objects.
 
+ghost use Rattle.std.specs.Prelude.{◌≡◌};
+ghost use Rattle.elf_model.specs.Inits.{has_inits};
+
 use fd_base::{Bytes, Name, Names, Seq, Words};
 
 /// What an object is for.
@@ -93,6 +96,18 @@ pub struct Inits {
     pub init_array: Option<Extent>,
     /// The array of end functions, where it has bytes.
     pub fini_array: Option<Extent>,
+}
+
+impl Inits {
+    /// Whether there is any.
+    pub fn has_any(&self) -> bool
+        ensures { result ≡ has_inits self.now }
+    {
+        self.init.is_some()
+            || self.fini.is_some()
+            || self.init_array.is_some()
+            || self.fini_array.is_some()
+    }
 }
 
 /// Segments in the order of their program headers.

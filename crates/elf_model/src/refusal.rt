@@ -49,9 +49,11 @@ pub enum ElfKind {
     FunctionPlace,
 }
 
-/// The first failing test, and the offset in the file at which it fails, in bytes.
+/// The first failing test.
 #[derive(Clone, Copy, Debug, PartialEq, Eq)]
 pub struct ElfRefusal {
+    /// Which test fails.
     pub kind: ElfKind,
+    /// Where it fails in the file, in bytes.
     pub at: u32,
 }

@@ -8,8 +8,8 @@ use Rattle.elf_model.specs.Sound.{IsSound}
 use Rattle.elf_model.proofs.Soundness.{accepted_is_sound}
 use Rattle.elf_read.specs.declared.error.ReadErr.{ReadErr}
 use Rattle.elf_read.specs.declared.error.ReadErr.TheVariants.{Refused, Memory}
-use Rattle.elf_read.specs.Passes.{Reads}
-use Rattle.elf_read.specs.Reads.{IsReadAs, IsAnswer}
+use Rattle.elf_read.specs.parts.Passes.{Reads}
+use Rattle.elf_read.specs.parts.Reads.{IsReadAs, IsAnswer}
 
 pub is_read : (bytes : List ℕ) (a : Result Object ReadErr) → Reads (λ o. o) a (tests bytes) (object_of bytes) → IsReadAs bytes a
 is_read bytes (Ok o) h = record { passes = h.0; fields = h.1 }

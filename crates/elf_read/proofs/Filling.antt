@@ -6,7 +6,7 @@ use Rattle.elf_model.specs.declared.table.RelEntry.{RelEntry}
 use Rattle.elf_model.specs.declared.table.Site.{Site}
 use Rattle.elf_model.specs.Relocations.{fills, site_of, sites_of, sites_before, got_header, word_site}
 use Rattle.elf_read.specs.declared.sites.Taken.{Taken}
-use Rattle.elf_read.specs.Taken.{Has}
+use Rattle.elf_read.specs.parts.Taken.{Has}
 
 sites_of-append : (es fs : List RelEntry) → sites_of (es ++ fs) ≡ sites_of es ++ sites_of fs
 sites_of-append es fs = ap (λ (xs : List RelEntry). map site_of xs) (filter-append fills es fs) ∙ map-append site_of _ _

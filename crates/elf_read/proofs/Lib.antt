@@ -1,6 +1,5 @@
 pub mod Loops
 pub mod Filtered
-pub mod Find
 pub mod Holders
 pub mod Places
 pub mod Meeting

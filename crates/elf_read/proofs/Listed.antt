@@ -16,8 +16,8 @@ use Rattle.elf_model.specs.Relocations.{got_header, sites_of, both_table_tests, 
 use Rattle.elf_model.specs.Fields as field
 use Rattle.elf_model.specs.Object.{relocation_tests}
 use Rattle.elf_model.proofs.Tests.{passed_over}
-use Rattle.elf_read.specs.Fixups as spec
-use Rattle.elf_read.specs.Fixups.{list_tests}
+use Rattle.elf_read.specs.parts.Fixups as spec
+use Rattle.elf_read.specs.parts.Fixups.{list_tests}
 
 -- one more symbol
 pub symbols_more : (bytes strings : List ℕ) (first k : ℕ) (symbols : List Symbol) (s : Symbol) → symbols ≡ null_symbol ∷ map (λ i. symbol_of strings (symbol_entry_of bytes first i)) (range_with_len 1 k)

@@ -2,11 +2,11 @@
 use Rattle.std.proofs.Common.{◌≡◌, ℕ, ◌+◌, ◌-◌, ◌*◌, ◌/◌, ◌%◌, ◌<◌, ◌≤◌, Bool, true, false, cond, ◌||◌, List, [], ◌∷◌, refl, inl, inr, arith}
 use Rattle.std.specs.List.{list_any}
 use Rattle.std.specs.Ordering.{nat_cmp, is_eq}
-use Rattle.std.proofs.lemmas.Bool.{cases_lt, false_from_ne_true}
+use Rattle.std.proofs.lemmas.Bool.{cases_lt, false_from_ne_true, or_parts}
 use Rattle.std.proofs.lemmas.Bool.Decides.{nat_tests}
 use Rattle.elf_model.specs.declared.table.Site.{Site}
 use Rattle.elf_model.specs.Relocations.{meets}
-use Rattle.elf_read.specs.Taken.{covers, IsAligned, AreAligned}
+use Rattle.elf_read.specs.parts.Taken.{covers, IsAligned, AreAligned}
 
 covers_tells : (s : Site) (w : ℕ) → covers s w ≡ true → (w % 4 ≡ 0) × (s.addr ≤ w) × (w < s.addr + s.size)
 unfolding covers
@@ -28,10 +28,6 @@ or_step : (b c d e : Bool) → (b ≡ true → c ≡ true) → (d ≡ true → e
 or_step true c d e f g h = let one : c ≡ true = f refl in rw one refl
 or_step false true d e f g h = refl
 or_step false false d e f g h = g h
-
-or_false : (a b : Bool) → a || b ≡ false → (a ≡ false) × (b ≡ false)
-or_false true b e = absurd cc
-or_false false b e = (refl, e)
 
 any_more : {X : Type 0} (p q : X → Bool) (xs : List X) → ((x : X) → p x ≡ true → q x ≡ true) → list_any p xs ≡ true → list_any q xs ≡ true
 any_more p q [] f h = h
@@ -61,8 +57,8 @@ apart a s ia is none e =
 pub miss : (sites : List Site) (a : Site) → IsAligned a → AreAligned sites → ((j : ℕ) → j < a.size / 4 → list_any (λ s. covers s (a.addr + 4 * j)) sites ≡ false) → list_any (λ s. meets a s) sites ≡ false
 miss [] a ia is none = refl
 miss (s ∷ sites) a ia is none =
-    let here : meets a s ≡ false = false_from_ne_true (meets a s) (apart a s ia is.0 (λ j lt. (or_false _ _ (none j lt)).0)) in
-    let rest : list_any (λ s. meets a s) sites ≡ false = miss sites a ia is.1 (λ j lt. (or_false _ _ (none j lt)).1) in
+    let here : meets a s ≡ false = false_from_ne_true (meets a s) (apart a s ia is.0 (λ j lt. (or_parts _ _ (none j lt)).0)) in
+    let rest : list_any (λ s. meets a s) sites ≡ false = miss sites a ia is.1 (λ j lt. (or_parts _ _ (none j lt)).1) in
     rw (here, rest) refl
 
 -- one more word is taken

@@ -4,7 +4,7 @@ use Rattle.std.specs.Prelude.{not}
 use Rattle.std.specs.List.{list_any}
 use Rattle.std.specs.BTreeSet as set
 use Rattle.std.specs.Ordering.{nat_cmp}
-use Rattle.std.proofs.lemmas.Bool.{eqb-true}
+use Rattle.std.proofs.lemmas.Bool.{eqb-true, and_parts}
 use Rattle.std.proofs.lemmas.Bool.Decides.{nat_tests}
 use Rattle.elf_model.specs.declared.constants.TheConstants.{PF_W}
 use Rattle.elf_model.specs.declared.table.ProgramHeader.{ProgramHeader}
@@ -12,7 +12,7 @@ use Rattle.elf_model.specs.declared.table.Site.{Site}
 use Rattle.elf_model.specs.Segments.{is_writable_at, is_in_memory, has_flag}
 use Rattle.elf_model.specs.Relocations.{is_in_place}
 use Rattle.elf_read.specs.declared.sites.Taken.{Taken}
-use Rattle.elf_read.specs.Taken.{covers, IsWhole, IsAligned, AreAligned, Has}
+use Rattle.elf_read.specs.parts.Taken.{covers, IsWhole, IsAligned, AreAligned, Has}
 
 -- some element passes, and what holds of each holds of it
 any_gives : {X : Type 0} (p : X → Bool) (P : X → Type 0) (xs : List X) → list_any p xs ≡ true → All P xs → (x : X) × (p x ≡ true) × P x
@@ -23,10 +23,6 @@ any_gives {X} p P (y ∷ ys) e all = one (p y) refl (λ k. any_gives p P ys k (�
     one true h rest k = (y, h, all 0 y (omega arith))
     one false h rest k = rest k
 
-and_true : (a b : Bool) → a && b ≡ true → (a ≡ true) × (b ≡ true)
-and_true true b e = (refl, e)
-and_true false b e = absurd cc
-
 in_memory_ends : (h : ProgramHeader) (addr n : ℕ) → is_in_memory h addr n ≡ true → addr + n ≤ h.vaddr + h.memsz
 in_memory_ends h addr n e = grind (arith, nat_tests)
 
@@ -36,9 +32,9 @@ IsBelow h = h.vaddr + h.memsz < 2 ^ 32
 pub place_tells : (loads : List ProgramHeader) (s : Site) → All (λ h. h.vaddr + h.memsz < 2 ^ 32) loads → is_in_place loads s ≡ true → (s.addr % 4 ≡ 0) × (s.addr + s.size < 2 ^ 32)
 unfolding is_in_place is_writable_at
 place_tells loads s below e =
-    let parts = and_true _ _ e in
+    let parts = and_parts _ _ e in
     let found = any_gives (λ h. has_flag h.flags PF_W && is_in_memory h s.addr s.size) IsBelow loads parts.1 below in
-    (eqb-true _ _ parts.0, omega (arith, in_memory_ends found.0 s.addr s.size (and_true _ _ found.1).1, found.2))
+    (eqb-true _ _ parts.0, omega (arith, in_memory_ends found.0 s.addr s.size (and_parts _ _ found.1).1, found.2))
 
 pub aligned : (loads : List ProgramHeader) (s : Site) → IsWhole s → All (λ h. h.vaddr + h.memsz < 2 ^ 32) loads → is_in_place loads s ≡ true → IsAligned s
 aligned loads s whole below e = record { addr = (place_tells loads s below e).0; size = whole.size; some = whole.some }

@@ -1,11 +1,11 @@
 -- The tables of relocations.
-use Rattle.std.proofs.Common.{◌≡◌, ℕ, ◌+◌, ◌*◌, ◌/◌, Bool, true, false, ltb, List, [], ◌∷◌, ◌++◌, Option, Some, None, refl, sym, ap, ◌∙◌, arith}
+use Rattle.std.proofs.Common.{◌≡◌, ℕ, ◌+◌, ◌*◌, ◌/◌, Bool, true, false, ltb, List, [], ◌∷◌, ◌++◌, Option, Some, None, refl, sym, ap, ◌∙◌}
 use Rattle.std.specs.Prelude.{unwrap_or, option_map, filter, not, nat_le, ◌&&◌}
 use Rattle.std.specs.Option.{option_map_or}
-use Rattle.std.proofs.lemmas.List.{map-append, map-id, append-nil}
+use Rattle.std.proofs.lemmas.List.{map-append, append-nil}
 use Rattle.std.proofs.lemmas.List.Elements.{filter-append}
 use Rattle.std.specs.List.{range_with_len}
-use Rattle.std.proofs.lemmas.List.FromFn.{map-range_with_len_more}
+use Rattle.fd_base.proofs.Lists.{range_more}
 use Rattle.elf_model.specs.declared.constants.TheConstants.{DT_REL, DT_RELSZ, DT_JMPREL, DT_PLTRELSZ}
 use Rattle.elf_model.specs.declared.table.ProgramHeader.{ProgramHeader}
 use Rattle.elf_model.specs.declared.table.DynEntry.{DynEntry}
@@ -16,7 +16,7 @@ use Rattle.elf_model.specs.Test.{first_failing}
 use Rattle.elf_model.specs.Segments.{held_at}
 use Rattle.elf_model.specs.Dynamic.{first_of, value_of}
 use Rattle.elf_model.specs.Relocations.{rel_table_at, rel_table_tests, rel_entry, entries_at, own_places, is_slot_entry, rel_entries, jmprel_entries}
-use Rattle.elf_read.specs.Tables.{range_of, slot_range, is_inside, entries_of}
+use Rattle.elf_read.specs.parts.Tables.{range_of, slot_range, is_inside, entries_of}
 
 -- the tests of a table hold, and it stands there
 pub range_found : (loads : List ProgramHeader) (entries : List DynEntry) (tag size_tag : ℕ) (e : DynEntry) (size : Option ℕ) (n at : ℕ)
@@ -64,9 +64,6 @@ unfolding jmprel_entries range_of
 slot_entries bytes loads entries = slots_in bytes loads (value_of DT_JMPREL entries) (unwrap_or (value_of DT_PLTRELSZ entries) 0)
 
 -- ---- one more place of a table
-
-range_more : (k : ℕ) → range_with_len 0 (k + 1) ≡ range_with_len 0 k ++ k ∷ []
-range_more k = sym (map-id _) ∙ map-range_with_len_more (λ n. n) 0 k k (omega arith) ∙ ap (λ ns. ns ++ k ∷ []) (map-id _)
 
 entries_push : (bytes : List ℕ) (table : RelTable) (offset k : ℕ) (p : ℕ → Bool) → entries_at bytes table offset (filter p (range_with_len 0 (k + 1)))
     ≡ entries_at bytes table offset (filter p (range_with_len 0 k)) ++ entries_at bytes table offset (filter p (k ∷ []))

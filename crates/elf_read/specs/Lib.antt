@@ -1,9 +1,1 @@
-pub mod Reads
-pub mod Passes
-pub mod Taken
-pub mod Tables
-pub mod Strings
-pub mod SectionTable
-pub mod Functions
-pub mod Fixups
-pub mod Hashed
+pub mod parts

@@ -7,18 +7,20 @@ ghost use Rattle.elf_model.specs.Test.{refuses};
 ghost use Rattle.elf_model.specs.Header.{e_phoff, e_phnum};
 ghost use Rattle.elf_model.specs.Segments.{InFile};
 ghost use Rattle.elf_model.specs.Dynamic as spec;
-ghost use Rattle.elf_read.specs.Passes.{Passes, Reads};
+ghost use Rattle.elf_read.specs.parts.HeaderTables.{HasProgramTable};
+ghost use Rattle.elf_read.specs.parts.Passes.{Passes, Reads};
 
 use crate::error::ReadErr;
+use crate::fields::e_phnum;
 use crate::held::{has_flag, held_at};
 use crate::refuse::{refusal, refuse};
 use crate::segments::{header_offset, program_header};
 use elf_model::constants::{
-    DF_TEXTREL, DT_FLAGS, DT_NULL, DT_PLTREL, DT_REL, DT_RELA, DT_RELENT, DT_SYMENT, DT_TEXTREL,
-    DYN_SIZE, EHDR_SIZE, PHDR_SIZE, PT_DYNAMIC, REL_SIZE, SYM_SIZE,
+    D_TAG, D_VAL, DF_TEXTREL, DT_FLAGS, DT_NULL, DT_PLTREL, DT_REL, DT_RELA, DT_RELENT, DT_SYMENT,
+    DT_TEXTREL, DYN_SIZE, EHDR_SIZE, PHDR_SIZE, PT_DYNAMIC, REL_SIZE, SYM_SIZE,
 };
 use elf_model::{DynEntry, ElfKind, ProgramHeader};
-use fd_base::{Memory, half_in, word_in};
+use fd_base::{Memory, word_in};
 use std::alloc::Global;
 
 /// Which program header is the first of a dynamic section.
@@ -26,11 +28,11 @@ use std::alloc::Global;
 pub fn dynamic_header(bytes: &[u8]) -> Option<u16>
     requires small { length bytes.now < 2 ^ 32 }
     requires long { EHDR_SIZE ≤ length bytes.now }
-    requires table { e_phoff bytes.now + PHDR_SIZE * e_phnum bytes.now ≤ length bytes.now }
+    requires table { HasProgramTable bytes.now }
     ensures place { result ≡ spec.dynamic_header bytes.now }
     ensures inside { IfSome result (λ i. i < e_phnum bytes.now) }
 {
-    for i in 0..half_in(bytes, 44) {
+    for i in 0..e_phnum(bytes) {
         if program_header(bytes, i).kind == PT_DYNAMIC {
             return Some(i);
         }
@@ -46,8 +48,8 @@ fn entry_at(bytes: &[u8], offset: usize) -> DynEntry
 {
     DynEntry {
         offset: offset as u32,
-        tag: word_in(bytes, offset),
-        value: word_in(bytes, offset + 4),
+        tag: word_in(bytes, offset + D_TAG),
+        value: word_in(bytes, offset + D_VAL),
     }
 }
 
@@ -61,7 +63,8 @@ fn before_null(
 ) -> Result<Option<Vec<DynEntry>>, Memory>
     requires inside { start + size ≤ length bytes.now }
     requires small { length bytes.now < 2 ^ 32 }
-    ensures { IfOk result (λ o. option_map (λ v. v.items) o ≡ spec.before_null (spec.whole_entries bytes.now start size)) }
+    ensures { IfOk result (λ o. option_map (λ v. v.items) o
+        ≡ spec.before_null (spec.whole_entries bytes.now start size)) }
 {
     let mut entries = Vec::new(alloc);
     for k in 0..size / DYN_SIZE {
@@ -85,7 +88,9 @@ fn entries_of(
 ) -> Result<Vec<DynEntry>, ReadErr>
     requires small { length bytes.now < 2 ^ 32 }
     requires in_file { All (InFile (length bytes.now)) loads.now }
-    ensures { Reads (λ v. v.items) result (refuses kinds.DynRange offset (is_none (spec.entries_of bytes.now loads.now h.now)) ∷ []) (unwrap_or (spec.entries_of bytes.now loads.now h.now) []) }
+    ensures { Reads (λ v. v.items) result
+        (refuses kinds.DynRange offset (is_none (spec.entries_of bytes.now loads.now h.now)) ∷ [])
+        (unwrap_or (spec.entries_of bytes.now loads.now h.now) []) }
 {
     let Some(start) = held_at(loads, h.vaddr, h.filesz) else {
         return Err(refusal(ElfKind::DynRange, offset));
@@ -105,9 +110,10 @@ pub fn dynamic_entries(
 ) -> Result<Vec<DynEntry>, ReadErr>
     requires small { length bytes.now < 2 ^ 32 }
     requires long { EHDR_SIZE ≤ length bytes.now }
-    requires table { e_phoff bytes.now + PHDR_SIZE * e_phnum bytes.now ≤ length bytes.now }
+    requires table { HasProgramTable bytes.now }
     requires in_file { All (InFile (length bytes.now)) loads.now }
-    ensures { Reads (λ v. v.items) result (spec.dynamic_range_tests bytes.now loads.now) (spec.dynamic_entries bytes.now loads.now) }
+    ensures { Reads (λ v. v.items) result (spec.dynamic_range_tests bytes.now loads.now)
+        (spec.dynamic_entries bytes.now loads.now) }
 {
     match dynamic_header(bytes) {
         None => Ok(Vec::new(alloc)),
@@ -122,7 +128,7 @@ pub fn dynamic_entries(
 pub fn dynamic_offset_or(bytes: &[u8], place: u32) -> u32
     requires small { length bytes.now < 2 ^ 32 }
     requires long { EHDR_SIZE ≤ length bytes.now }
-    requires table { e_phoff bytes.now + PHDR_SIZE * e_phnum bytes.now ≤ length bytes.now }
+    requires table { HasProgramTable bytes.now }
     ensures { result ≡ spec.dynamic_offset_or bytes.now place }
 {
     match dynamic_header(bytes) {

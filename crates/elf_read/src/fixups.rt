@@ -3,10 +3,10 @@
 ghost use Rattle.std.specs.Prelude.{◌≡◌, ◌≤◌, ◌<◌, ◌^◌, ◌+◌, ◌*◌, List, length, All, IfSome, option_map};
 ghost use Rattle.elf_model.specs.declared.table.Site.{Site};
 ghost use Rattle.elf_model.specs.Sections as sections;
-ghost use Rattle.elf_read.specs.Fixups as spec;
-ghost use Rattle.elf_read.specs.SectionTable.{IsFixupList};
-ghost use Rattle.elf_read.specs.Taken.{Has};
-ghost use Rattle.elf_read.specs.Passes.{Passes, Reads};
+ghost use Rattle.elf_read.specs.parts.Fixups as spec;
+ghost use Rattle.elf_read.specs.parts.HeaderTables.{IsFixupList};
+ghost use Rattle.elf_read.specs.parts.Taken.{Has};
+ghost use Rattle.elf_read.specs.parts.Passes.{Passes, Reads};
 
 use crate::error::ReadErr;
 use crate::sections::{fixups_of, rofixup_offset};
@@ -17,7 +17,7 @@ use fd_base::Words;
 use std::alloc::Global;
 
 /// The tests of each fixup in turn. They stand in the file from an offset on.
-#[tactic(auto, unfolding(crate::specs::Fixups::fixup_tests))]
+#[tactic(auto, unfolding(crate::specs::parts::Fixups::fixup_tests))]
 fn check_fixups(
     loads: &[ProgramHeader],
     taken: &mut Taken,
@@ -26,7 +26,8 @@ fn check_fixups(
 ) -> Result<(), ReadErr>
     requires below { All (λ h. h.vaddr + h.memsz < 2 ^ 32) loads.now }
     requires fits { offset + 4 * length fixups.now < 2 ^ 32 }
-    ensures { (sites : List Site) → Has taken.old sites → Passes result (spec.fixup_tests loads.now sites offset fixups.now) }
+    ensures { (sites : List Site) → Has taken.old sites
+        → Passes result (spec.fixup_tests loads.now sites offset fixups.now) }
 {
     for (k, addr) in fixups.iter().enumerate() {
         let site = Site {
@@ -50,7 +51,9 @@ pub fn read_fixups(
     requires long { EHDR_SIZE ≤ length bytes.now }
     requires list { IfSome list (IsFixupList bytes.now) }
     requires below { All (λ h. h.vaddr + h.memsz < 2 ^ 32) loads.now }
-    ensures { (sites : List Site) → Has taken.old sites → Reads (λ f. f) result (spec.list_tests bytes.now loads.now sites list) (option_map (sections.fixups_of bytes.now) list) }
+    ensures { (sites : List Site) → Has taken.old sites
+        → Reads (λ f. f) result (spec.list_tests bytes.now loads.now sites list)
+        (option_map (sections.fixups_of bytes.now) list) }
 {
     let Some(i) = list else {
         return Ok(None);

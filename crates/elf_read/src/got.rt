@@ -7,16 +7,16 @@ ghost use Rattle.elf_model.specs.Test.{refuses};
 ghost use Rattle.elf_model.specs.Sections.{listed_got};
 ghost use Rattle.elf_model.specs.Dynamic.{value_of};
 ghost use Rattle.elf_model.specs.Fields.{is_got_place};
-ghost use Rattle.elf_read.specs.SectionTable.{IsFixupList};
+ghost use Rattle.elf_read.specs.parts.HeaderTables.{IsFixupList};
 ghost use Rattle.elf_model.specs.Relocations.{is_in_place, got_header};
-ghost use Rattle.elf_read.specs.Passes.{Reads};
+ghost use Rattle.elf_read.specs.parts.Passes.{Reads};
 
 use crate::dynamic::value_of;
 use crate::error::ReadErr;
 use crate::refuse::refusal;
 use crate::sections::listed_got;
 use crate::sites::is_in_place;
-use elf_model::constants::{DT_PLTGOT, EHDR_SIZE};
+use elf_model::constants::{DT_PLTGOT, EHDR_SIZE, GOT_HEADER_SIZE};
 use elf_model::{DynEntry, ElfKind, ProgramHeader, Site};
 
 /// The words of the GOT that the loader fills.
@@ -25,14 +25,16 @@ pub fn got_header(got: u32) -> Site
 {
     Site {
         addr: got,
-        size: 12,
+        size: GOT_HEADER_SIZE,
     }
 }
 
 /// The test of the GOT, whose faults are reported at an offset of the file.
 #[tactic(auto, unfolding(elf_model::specs::Fields::is_got_place, elf_model::specs::Relocations::is_in_place))]
 pub fn check_got(loads: &[ProgramHeader], got: Option<u32>, offset: u32) -> Result<u32, ReadErr>
-    ensures tests { Reads (λ g. g) result (refuses kinds.NoGot offset (not (option_map_or (is_got_place loads.now) got false)) ∷ []) (unwrap_or got 0) }
+    ensures tests { Reads (λ g. g) result
+        (refuses kinds.NoGot offset (not (option_map_or (is_got_place loads.now) got false)) ∷ [])
+        (unwrap_or got 0) }
     ensures in_place { IfOk result (λ g. is_in_place loads.now (got_header g) ≡ true) }
 {
     match got {

@@ -25,7 +25,8 @@ fn holder(loads: &[ProgramHeader], addr: u32, size: u32) -> Option<&ProgramHeade
 #[tactic(auto, unfolding(elf_model::specs::Segments::held_at))]
 pub fn held_at(loads: &[ProgramHeader], addr: u32, size: u32) -> Option<usize>
     ensures value { result ≡ spec.held_at loads.now addr size }
-    ensures in_file { (len : ℕ) → All (spec.InFile len) loads.now → IfSome result (λ at. at + size ≤ len) }
+    ensures in_file { (len : ℕ) → All (spec.InFile len) loads.now
+        → IfSome result (λ at. at + size ≤ len) }
 {
     if size == 0 {
         return Some(0);

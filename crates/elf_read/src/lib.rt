@@ -4,6 +4,7 @@
 
 mod dynamic;
 mod error;
+mod fields;
 mod fixups;
 mod flags;
 mod got;
@@ -17,14 +18,12 @@ mod sections;
 mod segments;
 mod sites;
 mod strings;
-mod symbol_hash;
 mod symbols;
 mod tables;
 
 pub use elf_model::{ElfKind, ElfRefusal};
 pub use error::ReadErr;
 pub use object::read_object;
-pub use symbol_hash::hash;
 
 #[cfg(test)]
 mod tests;

@@ -2,7 +2,7 @@
 
 ghost use Rattle.std.specs.Prelude.{◌≡◌, IfOk};
 ghost use Rattle.elf_model.specs.Dynamic as spec;
-ghost use Rattle.elf_read.specs.Passes.{Reads};
+ghost use Rattle.elf_read.specs.parts.Passes.{Reads};
 
 use crate::dynamic::first_of;
 use crate::error::ReadErr;
@@ -26,7 +26,8 @@ fn needed_entries(alloc: Global, entries: &[DynEntry]) -> Result<Vec<DynEntry>, 
 /// The name of an entry, before which stand `k` needed names.
 #[tactic(auto, unfolding(elf_model::specs::Dynamic::needed_entry_tests))]
 fn needed_name(alloc: Global, strings: &[u8], k: usize, e: &DynEntry) -> Result<Name, ReadErr>
-    ensures { Reads (λ n. n) result (spec.needed_entry_tests strings.now k e.now) (spec.needed_name strings.now e.now) }
+    ensures { Reads (λ n. n) result (spec.needed_entry_tests strings.now k e.now)
+        (spec.needed_name strings.now e.now) }
 {
     refuse(MAX_NEEDED <= k, ElfKind::TooMany, e.offset)?;
     match name_at(alloc, strings, e.value)? {
@@ -38,7 +39,8 @@ fn needed_name(alloc: Global, strings: &[u8], k: usize, e: &DynEntry) -> Result<
 /// The needed names in order.
 #[tactic(auto, unfolding(elf_model::specs::Dynamic::needed_tests, elf_model::specs::Dynamic::needed_of))]
 pub fn read_needed(alloc: Global, strings: &[u8], entries: &[DynEntry]) -> Result<Names, ReadErr>
-    ensures { Reads (λ v. v) result (spec.needed_tests strings.now entries.now) (spec.needed_of strings.now entries.now) }
+    ensures { Reads (λ v. v) result (spec.needed_tests strings.now entries.now)
+        (spec.needed_of strings.now entries.now) }
 {
     let needed = needed_entries(alloc, entries)?;
     let mut names = Names::new(alloc);
@@ -55,7 +57,8 @@ pub fn read_soname(
     strings: &[u8],
     entries: &[DynEntry],
 ) -> Result<Option<Name>, ReadErr>
-    ensures { Reads (λ n. n) result (spec.soname_tests strings.now entries.now) (spec.soname_of strings.now entries.now) }
+    ensures { Reads (λ n. n) result (spec.soname_tests strings.now entries.now)
+        (spec.soname_of strings.now entries.now) }
 {
     let Some(e) = first_of(DT_SONAME, entries) else {
         return Ok(None);

@@ -1,29 +1,24 @@
 //! The reader: each stage makes the next tests of the format and hands on what it read.
 
-ghost use Rattle.std.specs.Prelude.{◌≡◌, ◌≤◌, ◌<◌, ◌^◌, ◌+◌, ◌-◌, ◌*◌, List, Option, Some, Ok, Err, ℕ, length, All, IfOk, IfSome, true};
-ghost use Rattle.fd_base.specs.declared.name.Name.{Name};
-ghost use Rattle.elf_model.specs.declared.object.Rel.{Rel};
-ghost use Rattle.elf_model.specs.declared.object.Symbol.{Symbol};
-ghost use Rattle.elf_model.specs.declared.table.DynEntry.{DynEntry};
-ghost use Rattle.elf_model.specs.declared.table.RelEntry.{RelEntry};
-ghost use Rattle.elf_model.specs.Header.{e_phoff, e_phnum};
+ghost use Rattle.std.specs.Prelude.{◌≡◌, ◌≤◌, ◌<◌, ◌^◌, ◌+◌, ◌-◌, Some, Ok, Err, ℕ, length, All, IfOk, IfSome, true};
 ghost use Rattle.elf_model.specs.Segments as segment;
 ghost use Rattle.elf_model.specs.Sections as section;
-ghost use Rattle.elf_model.specs.Dynamic as dynamics;
 ghost use Rattle.elf_model.specs.Relocations as rel;
 ghost use Rattle.elf_model.specs.Fields as field;
 ghost use Rattle.elf_model.specs.Object as spec;
-ghost use Rattle.elf_read.specs.SectionTable.{HasSectionTable, IsFixupList};
+ghost use Rattle.elf_read.specs.parts.HeaderTables.{HasProgramTable, HasSectionTable, IsFixupList};
 ghost use Rattle.elf_model.specs.declared.object.Object.{Object};
 ghost use Rattle.elf_model.specs.declared.refusal.ElfRefusal.{ElfRefusal};
 ghost use Rattle.elf_model.specs.Object.{IsObject};
 ghost use Rattle.elf_model.specs.Sound.{IsSound};
 ghost use Rattle.elf_read.specs.declared.error.ReadErr.TheVariants.{Refused};
-ghost use Rattle.elf_read.specs.Reads.{IsReadAs, IsAnswer};
-ghost use Rattle.elf_read.specs.Passes.{Reads};
+ghost use Rattle.elf_read.specs.parts.Reads.{IsReadAs, IsAnswer};
+ghost use Rattle.elf_read.specs.parts.Passes.{Reads};
+ghost use Rattle.elf_read.specs.parts.Stages.{ReadsDynamic, ReadsNames, ReadsTables, ReadsRelocations};
 
 use crate::dynamic::{check_entries, dynamic_entries, dynamic_offset_or};
 use crate::error::ReadErr;
+use crate::fields::e_entry;
 use crate::fixups::read_fixups;
 use crate::flags::{inits_of, is_now, is_symbolic};
 use crate::got::{check_got, got_of};
@@ -35,9 +30,9 @@ use crate::segments::{read_loads, segments_of};
 use crate::strings::read_strings;
 use crate::symbols::{read_symbol_table, read_symbols};
 use crate::tables::{jmprel_entries, rel_entries};
-use elf_model::constants::{EHDR_SIZE, PHDR_SIZE};
+use elf_model::constants::{E_PHOFF, EHDR_SIZE};
 use elf_model::{DynEntry, Object, ProgramHeader, RelEntry, Rels, Symbols};
-use fd_base::{Name, Names, Words, word_in};
+use fd_base::{Name, Names, Words};
 use std::alloc::Global;
 
 /// The GOT, which is in its place.
@@ -50,7 +45,7 @@ fn read_got(
 ) -> Result<u32, ReadErr>
     requires small { length bytes.now < 2 ^ 32 }
     requires long { EHDR_SIZE ≤ length bytes.now }
-    requires table { e_phoff bytes.now + PHDR_SIZE * e_phnum bytes.now ≤ length bytes.now }
+    requires table { HasProgramTable bytes.now }
     requires list { IfSome list (IsFixupList bytes.now) }
     requires are_loads { loads.now ≡ segment.loads bytes.now }
     requires are_entries { entries.now ≡ field.entries bytes.now }
@@ -61,16 +56,18 @@ fn read_got(
     check_got(
         loads,
         got_of(bytes, entries, list),
-        dynamic_offset_or(bytes, 28),
+        dynamic_offset_or(bytes, E_PHOFF),
     )
 }
 
 /// What the dynamic section says, and the sections.
 #[derive(Drop)]
-struct Dynamic {
+pub struct Dynamic {
+    /// The entries of the dynamic section before its NULL.
     entries: Vec<DynEntry>,
     /// Which section lists the fixups.
     list: Option<u16>,
+    /// The link address of the GOT.
     got: u32,
 }
 
@@ -79,11 +76,11 @@ struct Dynamic {
 fn read_dynamic(alloc: Global, bytes: &[u8], loads: &[ProgramHeader]) -> Result<Dynamic, ReadErr>
     requires small { length bytes.now < 2 ^ 32 }
     requires long { EHDR_SIZE ≤ length bytes.now }
-    requires table { e_phoff bytes.now + PHDR_SIZE * e_phnum bytes.now ≤ length bytes.now }
+    requires table { HasProgramTable bytes.now }
     requires sections { HasSectionTable bytes.now }
     requires in_file { All (segment.InFile (length bytes.now)) loads.now }
     requires are_loads { loads.now ≡ segment.loads bytes.now }
-    ensures tests { Reads {Y = List DynEntry × Option ℕ × ℕ} (λ d. (d.entries.items, d.list, d.got)) result (spec.dynamic_tests bytes.now) (field.entries bytes.now, section.rofixup bytes.now, field.got_or_zero bytes.now) }
+    ensures tests { ReadsDynamic bytes.now result }
     ensures list { IfOk result (λ d. IfSome d.list (IsFixupList bytes.now)) }
     ensures in_place { IfOk result (λ d. rel.is_in_place loads.now (rel.got_header d.got) ≡ true) }
 {
@@ -96,10 +93,13 @@ fn read_dynamic(alloc: Global, bytes: &[u8], loads: &[ProgramHeader]) -> Result<
 
 /// The symbols and the names of objects.
 #[derive(Drop)]
-struct Named {
+pub struct Named {
+    /// How many symbols there are, symbol 0 included.
     symbol_count: u32,
     symbols: Symbols,
+    /// The names of the objects that it needs.
     needed: Names,
+    /// The name that it gives itself.
     soname: Option<Name>,
 }
 
@@ -113,15 +113,15 @@ fn read_names(
 ) -> Result<Named, ReadErr>
     requires small { length bytes.now < 2 ^ 32 }
     requires long { EHDR_SIZE ≤ length bytes.now }
-    requires table { e_phoff bytes.now + PHDR_SIZE * e_phnum bytes.now ≤ length bytes.now }
+    requires table { HasProgramTable bytes.now }
     requires sections { HasSectionTable bytes.now }
     requires in_file { All (segment.InFile (length bytes.now)) loads.now }
     requires are_loads { loads.now ≡ segment.loads bytes.now }
     requires are_entries { entries.now ≡ field.entries bytes.now }
-    ensures { Reads {Y = ℕ × List Symbol × List Name × Option Name} (λ n. (n.symbol_count, n.symbols, n.needed, n.soname)) result (spec.name_tests bytes.now) (field.symbol_count bytes.now, field.symbols bytes.now, dynamics.needed_of (field.strings bytes.now) (field.entries bytes.now), dynamics.soname_of (field.strings bytes.now) (field.entries bytes.now)) }
+    ensures { ReadsNames bytes.now result }
 {
     let strings = read_strings(bytes, loads, entries)?;
-    let table = read_symbol_table(bytes, loads, entries, dynamic_offset_or(bytes, 28))?;
+    let table = read_symbol_table(bytes, loads, entries, dynamic_offset_or(bytes, E_PHOFF))?;
     let symbols = read_symbols(alloc, bytes, loads, strings, &table)?;
     let needed = read_needed(alloc, strings, entries)?;
     let soname = read_soname(alloc, strings, entries)?;
@@ -135,8 +135,10 @@ fn read_names(
 
 /// The entries of the two tables of relocations.
 #[derive(Drop)]
-struct Tables {
+pub struct Tables {
+    /// The entries of DT_REL that are its own.
     own: Vec<RelEntry>,
+    /// The entries of DT_JMPREL.
     slots: Vec<RelEntry>,
 }
 
@@ -150,7 +152,7 @@ fn read_tables(
 ) -> Result<Tables, ReadErr>
     requires small { length bytes.now < 2 ^ 32 }
     requires in_file { All (segment.InFile (length bytes.now)) loads.now }
-    ensures { Reads {Y = List RelEntry × List RelEntry} (λ t. (t.own.items, t.slots.items)) result (rel.both_table_tests loads.now entries.now) (rel.rel_entries bytes.now loads.now entries.now, rel.jmprel_entries bytes.now loads.now entries.now) }
+    ensures { ReadsTables bytes.now loads.now entries.now result }
 {
     let own = rel_entries(alloc, bytes, loads, entries)?;
     let slots = jmprel_entries(alloc, bytes, loads, entries)?;
@@ -159,9 +161,12 @@ fn read_tables(
 
 /// The relocations and the fixups.
 #[derive(Drop)]
-struct Relocations {
+pub struct Relocations {
+    /// Those of DT_REL.
     rels: Rels,
+    /// Those of DT_JMPREL.
     jmprels: Rels,
+    /// The link addresses that the list of fixups names.
     fixups: Option<Words>,
 }
 
@@ -185,7 +190,7 @@ fn read_relocations(
     requires is_list { dynamic.now.list ≡ section.rofixup bytes.now }
     requires is_got { dynamic.now.got ≡ field.got_or_zero bytes.now }
     requires is_count { symbol_count ≡ field.symbol_count bytes.now }
-    ensures { Reads {Y = List Rel × List Rel × Option (List ℕ)} (λ r. (r.rels, r.jmprels, r.fixups)) result (spec.relocation_tests bytes.now) (rel.rels_of (field.rel_entries bytes.now), rel.rels_of (field.jmprel_entries bytes.now), field.fixups bytes.now) }
+    ensures { ReadsRelocations bytes.now result }
 {
     let tables = read_tables(alloc, bytes, loads, &dynamic.entries)?;
     let rels = rels_of(alloc, &tables.own)?;
@@ -234,7 +239,7 @@ fn object(alloc: Global, bytes: &[u8]) -> Result<Object, ReadErr>
     } = relocations;
     Ok(Object {
         kind: kind_of(bytes),
-        entry: word_in(bytes, 24),
+        entry: e_entry(bytes),
         segments,
         got,
         needed,
@@ -257,7 +262,8 @@ pub fn read_object(alloc: Global, bytes: &[u8]) -> Result<Object, ReadErr>
 
     // Both answers are the only ones, unless memory is wanted.
     ensures only { (o : Object) → IsObject bytes.now o → IsAnswer result (Ok o) }
-    ensures first { (r : ElfRefusal) → spec.refusal_of bytes.now ≡ Some r → IsAnswer result (Err (Refused r)) }
+    ensures first { (r : ElfRefusal) → spec.refusal_of bytes.now ≡ Some r
+        → IsAnswer result (Err (Refused r)) }
 
     ensures sound { IfOk result IsSound }
 {

@@ -1,7 +1,7 @@
 //! One test of the format.
 
 ghost use Rattle.std.specs.Prelude.{◌≡◌};
-ghost use Rattle.elf_read.specs.Passes.{Refuses};
+ghost use Rattle.elf_read.specs.parts.Passes.{Refuses};
 ghost use Rattle.elf_read.specs.declared.error.ReadErr.TheVariants.{Refused};
 
 use crate::error::ReadErr;

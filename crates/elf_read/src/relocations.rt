@@ -3,8 +3,8 @@
 ghost use Rattle.std.specs.Prelude.{◌≡◌, ◌<◌, ◌^◌, ◌+◌, ◌++◌, [], ◌∷◌, List, length, All, IfOk, OnOk, true};
 ghost use Rattle.elf_model.specs.declared.table.Site.{Site};
 ghost use Rattle.elf_model.specs.Relocations as spec;
-ghost use Rattle.elf_read.specs.Taken.{Has};
-ghost use Rattle.elf_read.specs.Passes.{Passes, Gives};
+ghost use Rattle.elf_read.specs.parts.Taken.{Has};
+ghost use Rattle.elf_read.specs.parts.Passes.{Passes, Gives};
 
 use crate::error::ReadErr;
 use crate::got::got_header;
@@ -60,8 +60,10 @@ fn check_entry(
     e: &RelEntry,
 ) -> Result<(), ReadErr>
     requires below { All (λ h. h.vaddr + h.memsz < 2 ^ 32) loads.now }
-    ensures tests { (sites : List Site) → Has taken.old sites → Passes result (spec.rel_entry_tests loads.now symbol_count sites e.now) }
-    ensures taken { OnOk result ((sites : List Site) → Has taken.old sites → Has taken.new (sites ++ spec.sites_of (e.now ∷ []))) }
+    ensures tests { (sites : List Site) → Has taken.old sites
+        → Passes result (spec.rel_entry_tests loads.now symbol_count sites e.now) }
+    ensures taken { OnOk result ((sites : List Site) → Has taken.old sites
+        → Has taken.new (sites ++ spec.sites_of (e.now ∷ []))) }
 {
     refuse(!is_kind_of(e.table, e.kind), ElfKind::RelocType, e.offset)?;
     refuse(
@@ -86,7 +88,8 @@ pub fn check_relocations(
 ) -> Result<Taken, ReadErr>
     requires below { All (λ h. h.vaddr + h.memsz < 2 ^ 32) loads.now }
     requires got { spec.is_in_place loads.now (spec.got_header got) ≡ true }
-    ensures { Gives result (spec.all_rel_tests loads.now symbol_count got entries.now) (λ t. Has t (spec.got_header got ∷ spec.sites_of entries.now)) }
+    ensures { Gives result (spec.all_rel_tests loads.now symbol_count got entries.now)
+        (λ t. Has t (spec.got_header got ∷ spec.sites_of entries.now)) }
 {
     let mut taken = Taken::new(alloc);
     taken.take(loads, &got_header(got))?;

@@ -3,16 +3,20 @@
 ghost use Rattle.std.specs.Prelude.{◌≡◌, ◌≤◌, ◌<◌, ◌^◌, ◌+◌, ◌*◌, length, find, IfOk, IfSome};
 ghost use Rattle.elf_model.specs.Header.{e_shoff, e_shnum, e_shstrndx};
 ghost use Rattle.elf_model.specs.Sections as spec;
-ghost use Rattle.elf_read.specs.SectionTable.{HasSectionTable, IsFixupList, is_symbols_at};
-ghost use Rattle.elf_read.specs.Passes.{Reads};
+ghost use Rattle.elf_read.specs.parts.HeaderTables.{HasSectionTable, IsFixupList, is_symbols_at};
+ghost use Rattle.elf_read.specs.parts.Passes.{Reads};
 
 use crate::error::ReadErr;
+use crate::fields::{e_shnum, e_shoff, e_shstrndx};
 use crate::header::passes_end;
 use crate::refuse::refuse;
 use crate::strings::string_at;
-use elf_model::constants::{EHDR_SIZE, SHDR_SIZE, SHT_DYNSYM, SYM_SIZE};
+use elf_model::constants::{
+    EHDR_SIZE, SH_ADDR, SH_ADDRALIGN, SH_FLAGS, SH_INFO, SH_LINK, SH_NAME, SH_OFFSET, SH_SIZE,
+    SH_TYPE, SHDR_SIZE, SHT_DYNSYM, SYM_SIZE,
+};
 use elf_model::{ElfKind, SectionHeader};
-use fd_base::{Memory, Words, half_in, word_in};
+use fd_base::{Memory, Words, word_in};
 use std::alloc::Global;
 
 /// Where section header `i` stands in the file.
@@ -21,7 +25,7 @@ fn section_offset(bytes: &[u8], i: u16) -> u32
     requires fits { e_shoff bytes.now + SHDR_SIZE * i < 2 ^ 32 }
     ensures { result ≡ spec.section_offset bytes.now i }
 {
-    word_in(bytes, 32) + u32::from(SHDR_SIZE) * u32::from(i)
+    e_shoff(bytes) + u32::from(SHDR_SIZE) * u32::from(i)
 }
 
 #[tactic(auto, unfolding(elf_model::specs::Sections::section_header))]
@@ -33,15 +37,15 @@ fn section_header(bytes: &[u8], i: u16) -> SectionHeader
 {
     let at = section_offset(bytes, i) as usize;
     SectionHeader {
-        name: word_in(bytes, at),
-        kind: word_in(bytes, at + 4),
-        flags: word_in(bytes, at + 8),
-        addr: word_in(bytes, at + 12),
-        offset: word_in(bytes, at + 16),
-        size: word_in(bytes, at + 20),
-        link: word_in(bytes, at + 24),
-        info: word_in(bytes, at + 28),
-        align: word_in(bytes, at + 32),
+        name: word_in(bytes, at + SH_NAME),
+        kind: word_in(bytes, at + SH_TYPE),
+        flags: word_in(bytes, at + SH_FLAGS),
+        addr: word_in(bytes, at + SH_ADDR),
+        offset: word_in(bytes, at + SH_OFFSET),
+        size: word_in(bytes, at + SH_SIZE),
+        link: word_in(bytes, at + SH_LINK),
+        info: word_in(bytes, at + SH_INFO),
+        align: word_in(bytes, at + SH_ADDRALIGN),
     }
 }
 
@@ -54,7 +58,7 @@ fn section_names(bytes: &[u8]) -> &[u8]
     requires names { e_shstrndx bytes.now < e_shnum bytes.now }
     ensures { result.now ≡ spec.section_names bytes.now }
 {
-    let h = section_header(bytes, half_in(bytes, 50));
+    let h = section_header(bytes, e_shstrndx(bytes));
     let size = h.size as usize;
     if passes_end(bytes, h.offset, size) {
         &[]
@@ -85,7 +89,7 @@ fn rofixup_place(bytes: &[u8]) -> Option<u16>
     ensures place { result ≡ spec.rofixup_place bytes.now }
     ensures within { IfSome result (λ i. i < e_shnum bytes.now) }
 {
-    let count = half_in(bytes, 48);
+    let count = e_shnum(bytes);
     if count == 0 {
         return None;
     }
@@ -165,7 +169,7 @@ fn symbol_section(bytes: &[u8], addr: u32) -> Option<SectionHeader>
     requires table { HasSectionTable bytes.now }
     ensures { result ≡ find (is_symbols_at addr) (spec.section_headers bytes.now) }
 {
-    for i in 0..half_in(bytes, 48) {
+    for i in 0..e_shnum(bytes) {
         let h = section_header(bytes, i);
         if h.kind == SHT_DYNSYM && h.addr == addr {
             return Some(h);

@@ -5,13 +5,18 @@ ghost use Rattle.std.specs.List.{list_any};
 ghost use Rattle.elf_model.specs.Header.{e_phoff, e_phnum};
 ghost use Rattle.elf_model.specs.Segments as spec;
 ghost use Rattle.elf_model.specs.Object.{all_segment_tests};
-ghost use Rattle.elf_read.specs.Passes.{Passes, Reads};
+ghost use Rattle.elf_read.specs.parts.HeaderTables.{HasProgramTable};
+ghost use Rattle.elf_read.specs.parts.Passes.{Passes, Reads};
 
 use crate::error::ReadErr;
+use crate::fields::{e_phnum, e_phoff};
 use crate::refuse::refuse;
-use elf_model::constants::{EHDR_SIZE, MAX_SEGMENTS, PHDR_SIZE, PT_LOAD, PT_TLS};
+use elf_model::constants::{
+    E_PHNUM, EHDR_SIZE, MAX_SEGMENTS, P_ALIGN, P_FILESZ, P_FLAGS, P_MEMSZ, P_OFFSET, P_TYPE,
+    P_VADDR, PHDR_SIZE, PT_LOAD, PT_TLS,
+};
 use elf_model::{ElfKind, ProgramHeader, Segment, Segments};
-use fd_base::{Bytes, Memory, half_in, word_in};
+use fd_base::{Bytes, Memory, word_in};
 use std::alloc::Global;
 
 /// Where program header `i` stands in the file.
@@ -20,7 +25,7 @@ pub fn header_offset(bytes: &[u8], i: u16) -> u32
     requires fits { e_phoff bytes.now + PHDR_SIZE * i < 2 ^ 32 }
     ensures { result ≡ spec.header_offset bytes.now i }
 {
-    word_in(bytes, 28) + u32::from(PHDR_SIZE) * u32::from(i)
+    e_phoff(bytes) + u32::from(PHDR_SIZE) * u32::from(i)
 }
 
 /// Program header `i`.
@@ -33,13 +38,13 @@ pub fn program_header(bytes: &[u8], i: u16) -> ProgramHeader
 {
     let at = header_offset(bytes, i) as usize;
     ProgramHeader {
-        kind: word_in(bytes, at),
-        offset: word_in(bytes, at + 4),
-        vaddr: word_in(bytes, at + 8),
-        filesz: word_in(bytes, at + 16),
-        memsz: word_in(bytes, at + 20),
-        flags: word_in(bytes, at + 24),
-        align: word_in(bytes, at + 28),
+        kind: word_in(bytes, at + P_TYPE),
+        offset: word_in(bytes, at + P_OFFSET),
+        vaddr: word_in(bytes, at + P_VADDR),
+        filesz: word_in(bytes, at + P_FILESZ),
+        memsz: word_in(bytes, at + P_MEMSZ),
+        flags: word_in(bytes, at + P_FLAGS),
+        align: word_in(bytes, at + P_ALIGN),
     }
 }
 
@@ -104,13 +109,13 @@ fn check_program_header(
 fn loads(alloc: Global, bytes: &[u8]) -> Result<Vec<ProgramHeader>, ReadErr>
     requires small { length bytes.now < 2 ^ 32 }
     requires long { EHDR_SIZE ≤ length bytes.now }
-    requires table { e_phoff bytes.now + PHDR_SIZE * e_phnum bytes.now ≤ length bytes.now }
+    requires table { HasProgramTable bytes.now }
     ensures tests { Reads (λ v. v.items) result (spec.segment_tests bytes.now) (spec.loads bytes.now) }
     ensures in_file { IfOk result (λ v. All (λ h. spec.InFile (length bytes.now) h) v.items) }
     ensures below { IfOk result (λ v. All (λ h. h.vaddr + h.memsz < 2 ^ 32) v.items) }
 {
     let mut loads = Vec::new(alloc);
-    for i in 0..half_in(bytes, 44) {
+    for i in 0..e_phnum(bytes) {
         let h = program_header(bytes, i);
         check_program_header(bytes.len(), header_offset(bytes, i), &h, &loads)?;
         if is_load(&h) {
@@ -125,13 +130,13 @@ fn loads(alloc: Global, bytes: &[u8]) -> Result<Vec<ProgramHeader>, ReadErr>
 pub fn read_loads(alloc: Global, bytes: &[u8]) -> Result<Vec<ProgramHeader>, ReadErr>
     requires small { length bytes.now < 2 ^ 32 }
     requires long { EHDR_SIZE ≤ length bytes.now }
-    requires table { e_phoff bytes.now + PHDR_SIZE * e_phnum bytes.now ≤ length bytes.now }
+    requires table { HasProgramTable bytes.now }
     ensures tests { Reads (λ v. v.items) result (all_segment_tests bytes.now) (spec.loads bytes.now) }
     ensures in_file { IfOk result (λ v. All (spec.InFile (length bytes.now)) v.items) }
     ensures below { IfOk result (λ v. All (λ h. h.vaddr + h.memsz < 2 ^ 32) v.items) }
 {
     let loads = loads(alloc, bytes)?;
-    refuse(loads.is_empty(), ElfKind::Header, 44)?;
+    refuse(loads.is_empty(), ElfKind::Header, E_PHNUM)?;
     Ok(loads)
 }
 

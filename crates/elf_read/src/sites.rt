@@ -6,7 +6,7 @@ ghost use Rattle.std.specs.BTreeSet as set;
 ghost use Rattle.std.specs.Ordering.{nat_cmp};
 ghost use Rattle.elf_model.specs.declared.table.Site.{Site};
 ghost use Rattle.elf_model.specs.Relocations as spec;
-ghost use Rattle.elf_read.specs.Passes.{Passes};
+ghost use Rattle.elf_read.specs.parts.Passes.{Passes};
 
 use crate::error::ReadErr;
 use crate::held::is_writable_at;
@@ -31,7 +31,7 @@ pub struct Taken {
 }
 
 impl Taken {
-    ghost use Rattle.elf_read.specs.Taken.{covers, IsWhole, IsAligned, Has};
+    ghost use Rattle.elf_read.specs.parts.Taken.{covers, IsWhole, IsAligned, Has};
 
     /// No words.
     pub fn new(alloc: Global) -> Self
@@ -46,7 +46,8 @@ impl Taken {
     fn meets(&self, site: &Site) -> bool
         requires aligned { IsAligned site.now }
         requires fits { site.now.addr + site.now.size < 2 ^ 32 }
-        ensures { (sites : List Site) → Has self.now sites → result ≡ list_any (λ s. spec.meets site.now s) sites }
+        ensures { (sites : List Site) → Has self.now sites
+            → result ≡ list_any (λ s. spec.meets site.now s) sites }
     {
         for k in 0..site.size / 4 {
             if self.words.contains(&(site.addr + 4 * k)) {
@@ -59,7 +60,8 @@ impl Taken {
     fn take_words(&mut self, site: &Site) -> Result<(), Memory>
         requires aligned { IsAligned site.now }
         requires fits { site.now.addr + site.now.size < 2 ^ 32 }
-        ensures { OnOk result ((w : ℕ) → set.contains nat_cmp self.new.words w ≡ (covers site.now w || set.contains nat_cmp self.old.words w)) }
+        ensures { OnOk result ((w : ℕ) → set.contains nat_cmp self.new.words w
+            ≡ (covers site.now w || set.contains nat_cmp self.old.words w)) }
     {
         for k in 0..site.size / 4 {
             self.words.insert(site.addr + 4 * k)?;
@@ -72,7 +74,8 @@ impl Taken {
         requires below { All (λ h. h.vaddr + h.memsz < 2 ^ 32) loads.now }
         requires whole { IsWhole site.now }
         requires in_place { spec.is_in_place loads.now site.now ≡ true }
-        ensures { OnOk result ((sites : List Site) → Has self.old sites → Has self.new (sites ++ site.now ∷ [])) }
+        ensures { OnOk result ((sites : List Site) → Has self.old sites
+            → Has self.new (sites ++ site.now ∷ [])) }
     {
         self.take_words(site)
     }
@@ -81,7 +84,8 @@ impl Taken {
     fn check(&self, loads: &[ProgramHeader], site: &Site, offset: u32) -> Result<(), ReadErr>
         requires below { All (λ h. h.vaddr + h.memsz < 2 ^ 32) loads.now }
         requires whole { IsWhole site.now }
-        ensures tests { (sites : List Site) → Has self.now sites → Passes result (spec.site_tests loads.now sites offset site.now) }
+        ensures tests { (sites : List Site) → Has self.now sites
+            → Passes result (spec.site_tests loads.now sites offset site.now) }
         ensures in_place { OnOk result (spec.is_in_place loads.now site.now ≡ true) }
     {
         refuse(!is_in_place(loads, site), ElfKind::SiteRange, offset)?;
@@ -92,8 +96,10 @@ impl Taken {
     pub fn fill(&mut self, loads: &[ProgramHeader], site: &Site, offset: u32) -> Result<(), ReadErr>
         requires below { All (λ h. h.vaddr + h.memsz < 2 ^ 32) loads.now }
         requires whole { IsWhole site.now }
-        ensures tests { (sites : List Site) → Has self.old sites → Passes result (spec.site_tests loads.now sites offset site.now) }
-        ensures taken { OnOk result ((sites : List Site) → Has self.old sites → Has self.new (sites ++ site.now ∷ [])) }
+        ensures tests { (sites : List Site) → Has self.old sites
+            → Passes result (spec.site_tests loads.now sites offset site.now) }
+        ensures taken { OnOk result ((sites : List Site) → Has self.old sites
+            → Has self.new (sites ++ site.now ∷ [])) }
     {
         self.check(loads, site, offset)?;
         self.take(loads, site)?;

@@ -4,8 +4,8 @@ ghost use Rattle.std.specs.Prelude.{◌≡◌, ◌==◌, length, All, IfOk, IfSo
 ghost use Rattle.elf_model.specs.Segments.{InFile};
 ghost use Rattle.elf_model.specs.Dynamic as dynamic;
 ghost use Rattle.elf_model.specs.Strings as spec;
-ghost use Rattle.elf_read.specs.Strings.{IsString};
-ghost use Rattle.elf_read.specs.Passes.{Reads};
+ghost use Rattle.elf_read.specs.parts.Strings.{IsString};
+ghost use Rattle.elf_read.specs.parts.Passes.{Reads};
 
 use crate::dynamic::{first_of, value_of};
 use crate::error::ReadErr;
@@ -100,7 +100,8 @@ pub fn read_strings<'a>(
     entries: &[DynEntry],
 ) -> Result<&'a [u8], ReadErr>
     requires { All (InFile (length bytes.now)) loads.now }
-    ensures { Reads (λ s. s.now) result (dynamic.string_tests bytes.now loads.now entries.now) (dynamic.strings_of bytes.now loads.now entries.now) }
+    ensures { Reads (λ s. s.now) result (dynamic.string_tests bytes.now loads.now entries.now)
+        (dynamic.strings_of bytes.now loads.now entries.now) }
 {
     match first_of(DT_STRTAB, entries) {
         None => Ok(&[]),

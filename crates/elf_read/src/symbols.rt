@@ -1,12 +1,13 @@
 //! The symbols for dynamic linking.
 
-ghost use Rattle.std.specs.Prelude.{◌≡◌, ◌≤◌, ◌<◌, ◌^◌, ◌+◌, ◌*◌, [], ◌∷◌, ℕ, List, length, All, IfOk, unwrap_or};
+ghost use Rattle.std.specs.Prelude.{◌≡◌, ◌≤◌, ◌<◌, ◌^◌, ◌+◌, ◌*◌, [], ◌∷◌, ℕ, List, length, All, IfOk};
 ghost use Rattle.elf_model.specs.declared.refusal.ElfKind.TheVariants as kinds;
-ghost use Rattle.elf_model.specs.Segments.{InFile, held_at};
+ghost use Rattle.elf_model.specs.Segments.{InFile};
 ghost use Rattle.elf_model.specs.Symbols as spec;
-ghost use Rattle.elf_read.specs.Functions.{function_tests};
-ghost use Rattle.elf_read.specs.SectionTable.{HasSectionTable};
-ghost use Rattle.elf_read.specs.Passes.{Passes, Reads};
+ghost use Rattle.elf_read.specs.parts.Functions.{function_tests};
+ghost use Rattle.elf_read.specs.parts.HeaderTables.{HasSectionTable};
+ghost use Rattle.elf_read.specs.parts.Passes.{Passes, Reads};
+ghost use Rattle.elf_read.specs.parts.Stages.{ReadsTableOf, ReadsSymbolTable};
 
 use crate::dynamic::first_of;
 use crate::error::ReadErr;
@@ -15,8 +16,9 @@ use crate::refuse::{refusal, refuse};
 use crate::sections::section_symbol_count;
 use crate::strings::{name_of, string_at};
 use elf_model::constants::{
-    DT_HASH, DT_SYMTAB, EHDR_SIZE, MAX_ENTRIES, SHN_ABS, SHN_COMMON, SHN_UNDEF, STB_LOCAL,
-    STT_FUNC, STT_NOTYPE, STT_TLS, STV_DEFAULT, SYM_SIZE,
+    DT_HASH, DT_SYMTAB, EHDR_SIZE, HASH_NCHAIN, MAX_ENTRIES, SHN_ABS, SHN_COMMON, SHN_UNDEF,
+    ST_INFO, ST_NAME, ST_OTHER, ST_SHNDX, ST_SIZE, ST_VALUE, STB_LOCAL, STT_FUNC, STT_NOTYPE,
+    STT_TLS, STV_DEFAULT, SYM_SIZE,
 };
 use elf_model::{DynEntry, ElfKind, Place, ProgramHeader, Symbol, SymbolEntry, Symbols};
 use fd_base::{half_in, word_in};
@@ -39,7 +41,7 @@ fn hash_symbol_count(bytes: &[u8], loads: &[ProgramHeader], hash: &DynEntry) -> 
 {
     match held_at(loads, hash.value, 8) {
         None => None,
-        Some(at) => Some(word_in(bytes, at + 4)),
+        Some(at) => Some(word_in(bytes, at + HASH_NCHAIN)),
     }
 }
 
@@ -87,7 +89,7 @@ fn symbol_table(
     requires long { EHDR_SIZE ≤ length bytes.now }
     requires sections { HasSectionTable bytes.now }
     requires in_file { All (InFile (length bytes.now)) loads.now }
-    ensures tests { let count = unwrap_or (spec.count_of bytes.now loads.now entries.now table.now.value) 0 in Reads {Y = ℕ × ℕ} (λ t. (t.count, t.offset)) result (spec.symbol_table_tests bytes.now loads.now entries.now dynamic table.now) (count, unwrap_or (held_at loads.now table.now.value (SYM_SIZE * count)) 0) }
+    ensures tests { ReadsTableOf bytes.now loads.now entries.now dynamic table.now result }
     ensures inside { IfOk result (λ t. t.offset + SYM_SIZE * t.count ≤ length bytes.now) }
 {
     check_hash(loads, entries)?;
@@ -113,7 +115,7 @@ pub fn read_symbol_table(
     requires long { EHDR_SIZE ≤ length bytes.now }
     requires sections { HasSectionTable bytes.now }
     requires in_file { All (InFile (length bytes.now)) loads.now }
-    ensures tests { let count = spec.symbol_count bytes.now loads.now entries.now in Reads {Y = ℕ × ℕ} (λ t. (t.count, t.offset)) result (spec.count_tests bytes.now loads.now entries.now dynamic) (count, spec.symbols_offset loads.now entries.now count) }
+    ensures tests { ReadsSymbolTable bytes.now loads.now entries.now dynamic result }
     ensures inside { IfOk result (λ t. t.offset + SYM_SIZE * t.count ≤ length bytes.now) }
 {
     match first_of(DT_SYMTAB, entries) {
@@ -134,12 +136,12 @@ fn symbol_entry(bytes: &[u8], offset: usize) -> SymbolEntry
 {
     SymbolEntry {
         offset: offset as u32,
-        name: word_in(bytes, offset),
-        value: word_in(bytes, offset + 4),
-        size: word_in(bytes, offset + 8),
-        info: bytes[offset + 12],
-        other: bytes[offset + 13],
-        section: half_in(bytes, offset + 14),
+        name: word_in(bytes, offset + ST_NAME),
+        value: word_in(bytes, offset + ST_VALUE),
+        size: word_in(bytes, offset + ST_SIZE),
+        info: bytes[offset + ST_INFO],
+        other: bytes[offset + ST_OTHER],
+        section: half_in(bytes, offset + ST_SHNDX),
     }
 }
 
@@ -191,7 +193,8 @@ fn read_symbol(
     strings: &[u8],
     e: &SymbolEntry,
 ) -> Result<Symbol, ReadErr>
-    ensures { Reads (λ s. s) result (spec.symbol_tests loads.now strings.now e.now) (spec.symbol_of strings.now e.now) }
+    ensures { Reads (λ s. s) result (spec.symbol_tests loads.now strings.now e.now)
+        (spec.symbol_of strings.now e.now) }
 {
     let Some(text) = string_at(strings, e.name) else {
         return Err(refusal(ElfKind::NameRange, e.offset));
@@ -236,7 +239,9 @@ pub fn read_symbols(
 ) -> Result<Symbols, ReadErr>
     requires small { length bytes.now < 2 ^ 32 }
     requires inside { table.now.offset + SYM_SIZE * table.now.count ≤ length bytes.now }
-    ensures { Reads (λ s. s) result (spec.all_symbol_tests bytes.now loads.now strings.now table.now.offset table.now.count) (spec.symbols_of bytes.now strings.now table.now.offset table.now.count) }
+    ensures { Reads (λ s. s) result
+        (spec.all_symbol_tests bytes.now loads.now strings.now table.now.offset table.now.count)
+        (spec.symbols_of bytes.now strings.now table.now.offset table.now.count) }
 {
     let mut symbols = Symbols::new(alloc);
     if table.count == 0 {

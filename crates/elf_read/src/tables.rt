@@ -3,14 +3,16 @@
 ghost use Rattle.std.specs.Prelude.{◌≡◌, ◌≤◌, ◌<◌, ◌^◌, ◌+◌, ◌/◌, ℕ, length, All, IfOk, IfSome, Some, unwrap_or};
 ghost use Rattle.elf_model.specs.Segments.{InFile, held_at};
 ghost use Rattle.elf_model.specs.Relocations as spec;
-ghost use Rattle.elf_read.specs.Tables as tables;
-ghost use Rattle.elf_read.specs.Passes.{Reads};
+ghost use Rattle.elf_read.specs.parts.Tables as tables;
+ghost use Rattle.elf_read.specs.parts.Passes.{Reads};
 
 use crate::dynamic::{first_of, value_of};
 use crate::error::ReadErr;
 use crate::held::held_at;
 use crate::refuse::{refusal, refuse};
-use elf_model::constants::{DT_JMPREL, DT_PLTRELSZ, DT_REL, DT_RELSZ, MAX_ENTRIES, REL_SIZE};
+use elf_model::constants::{
+    DT_JMPREL, DT_PLTRELSZ, DT_REL, DT_RELSZ, MAX_ENTRIES, R_INFO, R_OFFSET, REL_SIZE,
+};
 use elf_model::{DynEntry, ElfKind, Extent, ProgramHeader, RelEntry, RelTable};
 use fd_base::{Memory, word_in};
 use std::alloc::Global;
@@ -31,7 +33,8 @@ pub struct RelRange {
 fn rel_table_at(loads: &[ProgramHeader], addr: u32, size: Option<u32>) -> Option<usize>
     ensures value { result ≡ spec.rel_table_at loads.now addr size }
     ensures held { IfSome result (λ at. held_at loads.now addr (unwrap_or size 0) ≡ Some at) }
-    ensures in_file { (len : ℕ) → All (InFile len) loads.now → IfSome result (λ at. at + unwrap_or size 0 ≤ len) }
+    ensures in_file { (len : ℕ) → All (InFile len) loads.now
+        → IfSome result (λ at. at + unwrap_or size 0 ≤ len) }
 {
     match size {
         None => None,
@@ -46,15 +49,18 @@ fn rel_table_at(loads: &[ProgramHeader], addr: u32, size: Option<u32>) -> Option
 }
 
 /// The tests of the table of two tags, and where it stands.
-#[tactic(auto, unfolding(elf_model::specs::Relocations::rel_table_tests, crate::specs::Tables::range_of))]
+#[tactic(auto, unfolding(elf_model::specs::Relocations::rel_table_tests, crate::specs::parts::Tables::range_of))]
 fn range_of(
     loads: &[ProgramHeader],
     entries: &[DynEntry],
     table_tag: u32,
     size_tag: u32,
 ) -> Result<Option<RelRange>, ReadErr>
-    ensures tests { Reads (λ r. r) result (spec.rel_table_tests loads.now entries.now table_tag size_tag) (tables.range_of loads.now entries.now table_tag size_tag) }
-    ensures in_file { (len : ℕ) → All (InFile len) loads.now → IfOk result (λ r. IfSome r (λ r. r.offset + r.size ≤ len)) }
+    ensures tests { Reads (λ r. r) result
+        (spec.rel_table_tests loads.now entries.now table_tag size_tag)
+        (tables.range_of loads.now entries.now table_tag size_tag) }
+    ensures in_file { (len : ℕ) → All (InFile len) loads.now
+        → IfOk result (λ r. IfSome r (λ r. r.offset + r.size ≤ len)) }
 {
     let Some(e) = first_of(table_tag, entries) else {
         return Ok(None);
@@ -80,18 +86,18 @@ fn rel_entry(bytes: &[u8], table: RelTable, offset: usize) -> RelEntry
     requires small { length bytes.now < 2 ^ 32 }
     ensures { result ≡ spec.rel_entry bytes.now table offset }
 {
-    let info = word_in(bytes, offset + 4);
+    let info = word_in(bytes, offset + R_INFO);
     RelEntry {
         table,
         offset: offset as u32,
-        site: word_in(bytes, offset),
+        site: word_in(bytes, offset + R_OFFSET),
         kind: (info % 256) as u8,
         symbol: info / 256,
     }
 }
 
 /// The link addresses of the slots' relocations.
-#[tactic(auto, unfolding(crate::specs::Tables::slot_range))]
+#[tactic(auto, unfolding(crate::specs::parts::Tables::slot_range))]
 fn slot_range(entries: &[DynEntry]) -> Option<Extent>
     ensures { result ≡ tables.slot_range entries.now }
 {
@@ -150,7 +156,8 @@ pub fn rel_entries(
 ) -> Result<Vec<RelEntry>, ReadErr>
     requires small { length bytes.now < 2 ^ 32 }
     requires in_file { All (InFile (length bytes.now)) loads.now }
-    ensures { Reads (λ v. v.items) result (spec.rel_table_tests loads.now entries.now DT_REL DT_RELSZ) (spec.rel_entries bytes.now loads.now entries.now) }
+    ensures { Reads (λ v. v.items) result (spec.rel_table_tests loads.now entries.now DT_REL DT_RELSZ)
+        (spec.rel_entries bytes.now loads.now entries.now) }
 {
     match range_of(loads, entries, DT_REL, DT_RELSZ)? {
         None => Ok(Vec::new(alloc)),
@@ -171,7 +178,9 @@ pub fn jmprel_entries(
 ) -> Result<Vec<RelEntry>, ReadErr>
     requires small { length bytes.now < 2 ^ 32 }
     requires in_file { All (InFile (length bytes.now)) loads.now }
-    ensures { Reads (λ v. v.items) result (spec.rel_table_tests loads.now entries.now DT_JMPREL DT_PLTRELSZ) (spec.jmprel_entries bytes.now loads.now entries.now) }
+    ensures { Reads (λ v. v.items) result
+        (spec.rel_table_tests loads.now entries.now DT_JMPREL DT_PLTRELSZ)
+        (spec.jmprel_entries bytes.now loads.now entries.now) }
 {
     match range_of(loads, entries, DT_JMPREL, DT_PLTRELSZ)? {
         None => Ok(Vec::new(alloc)),

@@ -1,8 +1,8 @@
 //! Objects written out word by word, and the same with one word changed.
 
 use crate::ElfKind::*;
-use crate::{ElfKind, ReadErr, hash, read_object};
-use elf_model::{Extent, Inits, Kind, Place, Rel};
+use crate::{ElfKind, ReadErr, read_object};
+use elf_model::{Extent, Inits, Kind, Place, Rel, hash};
 use fd_base::Name;
 use std::alloc::{AllocError, Global};
 use std::test::Fail;

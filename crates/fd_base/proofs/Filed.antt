@@ -8,7 +8,7 @@ use Rattle.std.specs.Cmp.{eq_by_cmp_equiv}
 use Rattle.std.proofs.lemmas.Bool.{false≢true}
 use Rattle.std.specs.BTreeMap.{insert_entry}
 use Rattle.std.specs.Map.{lookup}
-use Rattle.fd_base.specs.Entries.{entry_of, files_of}
+use Rattle.fd_base.specs.parts.Entries.{entry_of, files_of}
 
 abbrev compared : List ℕ → List ℕ → Ordering
 compared = slice_cmp nat_cmp

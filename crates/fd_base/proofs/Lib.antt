@@ -1,8 +1,13 @@
+pub mod Bools
 pub mod Changing
 pub mod Filed
+pub mod Finding
 pub mod Growing
 pub mod Hosted
+pub mod Lists
+pub mod Members
 pub mod Numerals
+pub mod Options
 pub mod Putting
+pub mod Ranges
 pub mod Splitting
-pub mod Translated

@@ -1,5 +1,6 @@
 -- Little-endian numbers in a list of bytes (gABI, "Data Representation", encoding ELFDATA2LSB).
 use Rattle.std.specs.Prelude.{ℕ, ◌+◌, List, ◌++◌, length, take, drop, Option, Some, None, nat_le, if◌then◌else◌}
+use Rattle.std.specs.List.{flat_map}
 use Rattle.byteorder.specs.Endian.{little_number, little_bytes}
 
 -- the word in the four bytes from a place on
@@ -21,3 +22,7 @@ half_at bytes at = if nat_le (at + 2) (length bytes) then Some (half_in bytes at
 -- the bytes with a word put at a place
 abbrev pub with_word : List ℕ → ℕ → ℕ → List ℕ
 with_word bytes at v = take at bytes ++ little_bytes 4 v ++ drop (at + 4) bytes
+
+-- the bytes of words, one behind the other
+abbrev pub word_bytes : List ℕ → List ℕ
+word_bytes words = flat_map (little_bytes 4) words

@@ -2,7 +2,7 @@
 
 ghost use Rattle.std.specs.Prelude.{◌≡◌, ◌==◌, ◌≤◌, IsTrue, is_ok, if◌then◌else◌};
 ghost use Rattle.std.specs.List.{list_any};
-ghost use Rattle.fd_base.specs.Calls.{no_calls, fails_next, with_call, with_failing};
+ghost use Rattle.fd_base.specs.parts.Calls.{no_calls, fails_next, with_call, with_failing};
 ghost use Rattle.fd_base.specs.Faults.{Rose};
 
 use crate::seq::{Memory, Numbers};
@@ -18,7 +18,7 @@ pub(crate) struct CallCounter {
 }
 
 impl Model for CallCounter {
-    ghost use Rattle.fd_base.specs.Calls.{Calls};
+    ghost use Rattle.fd_base.specs.parts.Calls.{Calls};
 
     ghost Value = { Calls };
 

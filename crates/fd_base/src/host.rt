@@ -4,7 +4,7 @@ ghost use Rattle.std.specs.Prelude.{◌≡◌, ◌≤◌, length, IsOk, IsErrOf,
 ghost use Rattle.std.specs.Io.KnownBytes.{Appends};
 ghost use Rattle.fd_base.specs.Faults.{Rose};
 ghost use Rattle.fd_base.specs.Grown.{SinkAnswers};
-ghost use Rattle.fd_base.specs.Host.{ReadAnswers};
+ghost use Rattle.fd_base.specs.parts.Host.{ReadAnswers};
 
 use crate::name::Name;
 use crate::seq::Bytes;

@@ -2,9 +2,9 @@
 #![tactic(auto)]
 
 mod calls;
+mod fields;
 mod host;
 mod lines;
-mod map;
 mod name;
 mod seq;
 mod sink;
@@ -14,9 +14,12 @@ mod tests;
 mod text;
 mod words;
 
+pub use fields::{
+    put_decimal_field, put_digits_field, put_hex_field, put_index_field, put_name_field,
+    put_word_field,
+};
 pub use host::{DirStore, StdSink};
 pub use lines::{Line, Lines};
-pub use map::MapEntry;
 pub use name::{Name, NameErr};
 pub use seq::{Bytes, Memory, Names, Numbers, Seq, Words};
 pub use sink::{MemSink, Sink, SinkErr};

@@ -1,10 +1,16 @@
 //! The names of files, modules and symbols.
 
-ghost use Rattle.std.specs.Prelude.{◌≡◌, IfOk};
+ghost use Rattle.std.specs.Prelude.{◌≡◌, IfOk, nat_eq};
+ghost use Rattle.std.specs.Hash as fed;
+ghost use Rattle.std.specs.Cmp.Lexicographic.{pointwise, nat_list_eq_equiv};
+ghost use Rattle.std.specs.Cmp.{partial_equiv_from_equiv};
+ghost use Rattle.std.specs.Cmp.Rules.{hashing};
+ghost use Rattle.std.proofs.Common.{rules};
 ghost use Rattle.fd_base.specs.Name.{IsNamed, first_zero};
 
 use crate::seq::Memory;
 use std::alloc::{AllocError, Global};
+use std::hash::{Hash, Hasher};
 use std::marker::Model;
 use thiserror::Error;
 
@@ -16,7 +22,7 @@ pub struct Name {
 
 impl Model for Name {
     ghost use Rattle.std.specs.Prelude.{List, ℕ};
-    ghost use Rattle.fd_base.specs.IsName.{IsName};
+    ghost use Rattle.fd_base.specs.parts.IsName.{IsName};
 
     ghost Value = { List ℕ };
 
@@ -92,5 +98,31 @@ impl Name {
     {
         let bytes = Vec::from_slice(alloc, &self.bytes)?;
         Ok(Name { bytes })
+    }
+}
+
+/// Names are equal where their bytes are.
+impl PartialEq for Name {
+    ghost eq = { pointwise nat_eq };
+
+    ghost laws = { partial_equiv_from_equiv nat_list_eq_equiv };
+
+    fn eq(&self, other: &Name) -> bool {
+        self.as_slice() == other.as_slice()
+    }
+}
+
+impl Eq for Name {
+    ghost laws = { nat_list_eq_equiv };
+}
+
+/// A name is hashed as the slice of its bytes.
+impl Hash for Name {
+    ghost hash_input = { λ n. fed.slice fed.u8 n };
+
+    ghost respects_eq = { Prim.search (hashing, rules) };
+
+    fn hash<H: Hasher>(&self, state: &mut H) {
+        self.as_slice().hash(state);
     }
 }

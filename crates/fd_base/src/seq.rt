@@ -1,8 +1,10 @@
 //! A list of values. Contracts see the list alone, and never the room that a vector reserves.
 
-ghost use Rattle.std.specs.Prelude.{◌≡◌, ◌↔◌, IsTrue, List, [], ◌∷◌, ◌++◌, length, take, IfOk, if◌then◌else◌, is_ok};
+ghost use Rattle.std.specs.Prelude.{◌≡◌, ◌↔◌, ◌+◌, ◌≤◌, IsTrue, List, [], ◌∷◌, ◌++◌, length, take, IfOk, if◌then◌else◌, is_ok};
+ghost use Rattle.fd_base.specs.Words.{with_word};
 
 use crate::name::Name;
+use crate::words::put_word;
 use std::alloc::{AllocError, Global};
 use std::marker::Model;
 
@@ -111,5 +113,15 @@ impl<T: Copy> Seq<T> {
         ensures { self.new ≡ (if is_ok result then self.old ++ values.now else self.old) }
     {
         self.values.extend_from_slice(values)
+    }
+}
+
+impl Seq<u8> {
+    /// Puts a word at a place that is known to lie in the bytes. The other bytes stay.
+    pub fn put_word(&mut self, at: u32, v: u32)
+        requires { at + 4 ≤ length self.old }
+        ensures { self.new ≡ with_word self.old at v }
+    {
+        put_word(&mut self.values, at, v);
     }
 }

@@ -1,7 +1,7 @@
 //! Sinks of bytes.
 
 ghost use Rattle.std.specs.Prelude.{◌≡◌, ℕ, ◌<◌, ◌≤◌, ◌↔◌, ◌==◌, ◌++◌, [], List, length, IsTrue, IsOk, Option, Some, is_ok, if◌then◌else◌};
-ghost use Rattle.fd_base.specs.Calls.{no_calls, fails_next, with_call, with_failing};
+ghost use Rattle.fd_base.specs.parts.Calls.{no_calls, fails_next, with_call, with_failing};
 ghost use Rattle.fd_base.specs.Grown.{SinkAnswers};
 
 use crate::calls::CallCounter;
@@ -56,7 +56,7 @@ pub struct MemSink {
 }
 
 impl Model for MemSink {
-    ghost use Rattle.fd_base.specs.Kept.{KeptBytes};
+    ghost use Rattle.fd_base.specs.parts.Kept.{KeptBytes};
 
     ghost Value = { KeptBytes };
 

@@ -2,9 +2,9 @@
 
 ghost use Rattle.std.specs.Prelude.{◌≡◌, ℕ, ◌≤◌, ◌↔◌, IsTrue, Option, Some, is_ok, if◌then◌else◌};
 ghost use Rattle.std.specs.FinMap as finite;
-ghost use Rattle.fd_base.specs.Calls.{no_calls, fails_next, with_call, with_failing};
+ghost use Rattle.fd_base.specs.parts.Calls.{no_calls, fails_next, with_call, with_failing};
 ghost use Rattle.fd_base.specs.Fetched.{Files, FetchAnswers, StoreAnswers, with_file};
-ghost use Rattle.fd_base.specs.Kept.{keeps_file};
+ghost use Rattle.fd_base.specs.parts.Kept.{keeps_file};
 
 use crate::calls::CallCounter;
 use crate::name::Name;
@@ -95,13 +95,13 @@ pub struct MemStore {
 }
 
 impl Model for MemStore {
-    ghost use Rattle.fd_base.specs.Kept.{KeptFiles, kept_files_code};
+    ghost use Rattle.fd_base.specs.parts.Kept.{KeptFiles, kept_files_code};
 
     ghost Value = { KeptFiles };
 
     ghost coded = { kept_files_code };
 
-    ghost use Rattle.fd_base.specs.Entries.{files_of};
+    ghost use Rattle.fd_base.specs.parts.Entries.{files_of};
 
     ghost view = { λ s. record { files = files_of s.files.entries; calls = s.calls } };
 }

@@ -12,14 +12,6 @@ fn named(alloc: Global, bytes: &[u8]) -> Result<Name, Fail> {
     Ok(Name::new(alloc, bytes)?)
 }
 
-/// Whether a fetch gave these bytes.
-fn gives(answer: &Result<Option<Bytes>, FetchErr>, bytes: &[u8]) -> bool {
-    match answer {
-        Ok(Some(fetched)) => fetched.as_slice() == bytes,
-        _ => false,
-    }
-}
-
 #[test]
 fn words_are_little_endian(rt: HostRuntime) {
     let mut bytes = [0x78, 0x56, 0x34, 0x12, 0xff];
@@ -96,59 +88,6 @@ fn texts_are_put(rt: HostRuntime) -> Result<(), Fail> {
     Ok(())
 }
 
-#[test]
-fn names_are_refused(rt: HostRuntime) -> Result<(), Fail> {
-    let alloc = rt.alloc();
-    let mut long = [b'a'; 257];
-    assert!(rt; matches!(Name::new(alloc, b""), Err(NameErr::Empty)));
-    assert!(rt; matches!(Name::new(alloc, b"a\0b\0"), Err(NameErr::Zero(1))));
-    assert!(rt; matches!(Name::new(alloc, &long[..256]), Err(NameErr::TooLong)));
-    let name = named(alloc, &long[..255])?.copy(alloc)?;
-    assert_eq!(rt; name.as_slice(), &long[..255]);
-    long[0] = 0;
-    assert!(rt; matches!(Name::new(alloc, &long[..256]), Err(NameErr::TooLong)));
-    assert!(rt; matches!(Name::new(alloc, &long[..255]), Err(NameErr::Zero(0))));
-    Ok(())
-}
-
-#[test]
-fn stores_fail_where_asked(rt: HostRuntime) -> Result<(), Fail> {
-    let alloc = rt.alloc();
-    let mut store = MemStore::new(alloc);
-    let (a, b) = (named(alloc, b"a")?, named(alloc, b"b")?);
-    store.add(&a, b"old")?;
-    store.add(&a, b"one")?;
-    for call in [2, 4, 0] {
-        store.fail_at(call)?;
-    }
-    assert!(rt; gives(&store.fetch(alloc, &a), b"one"));
-    assert!(rt; matches!(store.fetch(alloc, &a), Err(FetchErr::Failed)));
-    assert!(rt; matches!(store.put(&b, b"two"), Ok(())));
-    assert!(rt; matches!(store.put(&b, b"new"), Err(PutErr::Failed)));
-    assert!(rt; gives(&store.fetch(alloc, &b), b"two"));
-    assert!(rt; matches!(store.fetch(alloc, &named(alloc, b"c")?), Ok(None)));
-    let long = vec![in alloc; 0u8; 4_194_305]?;
-    store.add(&b, &long)?;
-    assert!(rt; matches!(store.fetch(alloc, &b), Err(FetchErr::TooLong(4_194_305))));
-    store.put(&b, &long[1..])?;
-    assert!(rt; gives(&store.fetch(alloc, &b), &long[1..]));
-    assert!(rt; gives(&store.fetch(alloc, &a), b"one"));
-    Ok(())
-}
-
-#[test]
-fn sinks_fail_where_asked(rt: HostRuntime) -> Result<(), Fail> {
-    let mut sink = MemSink::new(rt.alloc());
-    sink.fail_at(2)?;
-    assert!(rt; matches!(sink.put(b""), Ok(())));
-    assert!(rt; matches!(sink.put(b"one"), Ok(())));
-    assert!(rt; matches!(sink.put(b""), Ok(())));
-    assert!(rt; matches!(sink.put(b"two"), Err(SinkErr::Failed)));
-    assert!(rt; matches!(sink.put(b" three"), Ok(())));
-    assert_eq!(rt; sink.bytes(), b"one three".as_slice());
-    Ok(())
-}
-
 /// Reads that each give 1,000 bytes until the last one, which is an end or a fault.
 #[derive(Drop)]
 struct Thousands {
@@ -192,6 +131,12 @@ fn host_files_are_read_whole(rt: HostRuntime) -> Result<(), Fail> {
     file.left = u32::MAX;
     let long = read_all(alloc, &mut file, &mut faults);
     assert!(rt; matches!(long, Err(FetchErr::TooLong(4_194_305))));
+    Ok(())
+}
+
+#[test]
+fn the_host_names_no_text_and_no_folder(rt: HostRuntime) -> Result<(), Fail> {
+    let alloc = rt.alloc();
     let mut store = DirStore::new(&rt);
     assert!(rt;
         matches!(
@@ -235,4 +180,33 @@ fn lines_end_at_line_feeds(rt: HostRuntime) {
     assert!(rt; has_lines(b"a", &[(1, b"a")]));
     assert!(rt; has_lines(b"a\n", &[(1, b"a")]));
     assert!(rt; has_lines(b"a\r\n\n b", &[(1, b"a\r"), (2, b""), (3, b" b")]));
+}
+
+#[test]
+fn words_are_put_and_pushed(rt: HostRuntime) -> Result<(), Fail> {
+    let mut bytes = Bytes::new(rt.alloc());
+    bytes.push_half(0x0201)?;
+    bytes.push_word(0x0605_0403)?;
+    bytes.push_words(&[0x0a09_0807, 0])?;
+    bytes.put_word(9, 0xa1b2_c3d4);
+    let wanted = [1, 2, 3, 4, 5, 6, 7, 8, 9, 0xd4, 0xc3, 0xb2, 0xa1, 0];
+    assert_eq!(rt; bytes.as_slice(), wanted.as_slice());
+    Ok(())
+}
+
+#[test]
+fn fields_are_put_behind_spaces(rt: HostRuntime) -> Result<(), Fail> {
+    let alloc = rt.alloc();
+    let mut out = Bytes::new(alloc);
+    put_word_field(&mut out, b"word")?;
+    put_decimal_field(&mut out, 4_294_967_295)?;
+    put_index_field(&mut out, 0)?;
+    put_hex_field(&mut out, 0xdead_beef)?;
+    put_name_field(&mut out, &Some(named(alloc, b"a b")?))?;
+    put_name_field(&mut out, &None)?;
+    put_digits_field(&mut out, b"\x00\xfe")?;
+    put_digits_field(&mut out, b"")?;
+    let wanted = b" word 4294967295 0 0xdeadbeef a%20b - 00fe -";
+    assert_eq!(rt; out.as_slice(), wanted.as_slice());
+    Ok(())
 }

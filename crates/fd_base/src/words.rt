@@ -1,8 +1,10 @@
 //! Little-endian words and halfwords in bytes. Places are counted in bytes from 0.
 
-ghost use Rattle.std.specs.Prelude.{◌≡◌, ◌+◌, ◌≤◌, length};
+ghost use Rattle.std.specs.Prelude.{◌≡◌, ◌+◌, ◌++◌, ◌≤◌, length, is_ok, if◌then◌else◌, OnOk};
+ghost use Rattle.byteorder.specs.Endian.{little_bytes};
 ghost use Rattle.fd_base.specs.Words as spec;
 
+use crate::seq::{Memory, Seq};
 use byteorder::{ByteOrder, LittleEndian};
 
 /// The word at a place that is known to lie in the bytes.
@@ -53,4 +55,30 @@ pub fn put_word(bytes: &mut [u8], at: u32, v: u32)
     ensures { bytes.new ≡ spec.with_word bytes.old at v }
 {
     LittleEndian::write_u32(&mut bytes[at as usize..], v);
+}
+
+impl Seq<u8> {
+    /// Puts a halfword at the end. Without memory the bytes stay.
+    pub fn push_half(&mut self, v: u16) -> Result<(), Memory>
+        ensures { self.new ≡ (if is_ok result then self.old ++ little_bytes 2 v else self.old) }
+    {
+        self.extend_from_slice(&v.to_le_bytes())
+    }
+
+    /// Puts a word at the end. Without memory the bytes stay.
+    pub fn push_word(&mut self, v: u32) -> Result<(), Memory>
+        ensures { self.new ≡ (if is_ok result then self.old ++ little_bytes 4 v else self.old) }
+    {
+        self.extend_from_slice(&v.to_le_bytes())
+    }
+
+    /// Puts words at the end. Without memory some of them may stand there.
+    pub fn push_words(&mut self, words: &[u32]) -> Result<(), Memory>
+        ensures { OnOk result (self.new ≡ self.old ++ spec.word_bytes words.now) }
+    {
+        for word in words {
+            self.push_word(*word)?;
+        }
+        Ok(())
+    }
 }

@@ -13,8 +13,8 @@ use Rattle.fdpic_cmd.specs.Outcome.{Outcome, refuses}
 use Rattle.fdpic_cmd.specs.Meaning.{Means, is_at_once}
 use Rattle.fdpic_cmd.specs.Ended.{Kind, own, refusal, lacks, unlisted, store_failed, sink_failed, kind_of, EndsAs, Outside, Ends, CameTo, IsPartly, IsCutOff, IsCutOffUnless}
 use Rattle.fdpic_cmd.specs.Answers.{Answers, IsStatus, Yields, StaysUnless, at_once, IsEnded, IsEndedAs, StaysAs}
-use Rattle.fdpic_cmd.proofs.Agreed.{agrees}
-use Rattle.fdpic_cmd.proofs.Answered.{cut}
+use Rattle.fdpic_cmd.proofs.OutcomesAgree.{agrees}
+use Rattle.fdpic_cmd.proofs.ClaimParts.{cut}
 
 -- what the command means, where there is one
 abbrev pub CommandMeans : Option Command → Files → Outcome → Type 0

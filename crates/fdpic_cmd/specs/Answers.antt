@@ -66,11 +66,8 @@ StaysUnless at_once status old new = StaysAs (kind_of status) at_once old new
 -- the command has come to its end, or memory was wanted
 abbrev pub IsEndedAs : Kind → Type 0
 IsEndedAs own = Unit {0}
-IsEndedAs (refusal r) = ⊥
 IsEndedAs lacks = Unit {0}
-IsEndedAs unlisted = ⊥
-IsEndedAs store_failed = ⊥
-IsEndedAs sink_failed = ⊥
+IsEndedAs other = ⊥
 
 abbrev pub IsEnded : Status → Type 0
 IsEnded status = IsEndedAs (kind_of status)

@@ -2,13 +2,11 @@
 use Rattle.std.specs.Prelude.{ℕ, List, Option}
 use Rattle.fd_base.specs.Fetched.{Files}
 use Rattle.fd_base.specs.Grown.{Grew}
-use Rattle.proc_run.specs.declared.job.Job.{Job}
-use Rattle.run_journal.specs.Journal.{IsJournal}
+use Rattle.run_model.specs.declared.job.Job.{Job}
+use Rattle.run_laws.specs.Journal.{IsJournalOf}
 use Rattle.run_model.specs.Courses.{Course}
 use Rattle.run_model.specs.Report.{report_of}
-use Rattle.run_model.specs.Starts.{first_events, state_with}
-use Rattle.run_process.specs.Begun.{thread_at_entry}
-use Rattle.run_process.specs.Ends.{IsRun}
+use Rattle.proc_run.specs.RunEnds.{IsRun}
 use Rattle.fdpic_cmd.specs.declared.status.Status.{Status}
 use Rattle.fdpic_cmd.specs.Jobs.{IsJobFile}
 use Rattle.fdpic_cmd.specs.Run.{IsStatusOf}
@@ -22,4 +20,4 @@ pub record RanWithCalls (file : List ℕ) (out later : Option (List ℕ)) (statu
   pub run : IsRun job told course
   pub status' : IsStatusOf course.answer status
   pub grew : Grew out later (report_of course.events)
-  pub journal : IsJournal run.loaded job.steps (state_with run.loaded (thread_at_entry run.loaded run.entry)) (first_events run.loaded (thread_at_entry run.loaded run.entry)) course
+  pub journal : IsJournalOf job told course run

@@ -1,14 +1,13 @@
 -- code F: the words of an object's executable segments.
-use Rattle.std.specs.Prelude.{ℕ, ◌+◌, ◌*◌, ◌/◌, Bool, List, ◌++◌, length, filter, codes, Option, Some, None}
+use Rattle.std.specs.Prelude.{ℕ, ◌+◌, ◌*◌, ◌/◌, List, ◌++◌, length, filter, codes, Option, Some, None}
 use Rattle.std.specs.List.{flat_map, range_with_len}
 use Rattle.std.specs.Int.{bytes_high_first}
+use Rattle.elf_model.specs.Places.{is_executable}
 use Rattle.hex.specs.Hex.{encode_lower}
 use Rattle.fd_base.specs.Texts.{hex8}
 use Rattle.fd_base.specs.Words.{word_in}
-use Rattle.elf_model.specs.declared.constants.TheConstants.{PF_X}
 use Rattle.elf_model.specs.declared.object.Segment.{Segment}
 use Rattle.elf_model.specs.declared.object.Object.{Object}
-use Rattle.elf_model.specs.Segments.{has_flag}
 use Rattle.a32_isa.specs.declared.instr.Instr.{Instr}
 use Rattle.a32_isa.specs.Decoding.{decode_of}
 use Rattle.a32_isa.specs.Text.{text_of}
@@ -30,9 +29,6 @@ segment_code_line s k = code_line (s.vaddr + 4 * k) (word_in s.filled (4 * k))
 -- each whole word of a segment
 unfoldable pub segment_code : Segment → List ℕ
 segment_code s = flat_map (segment_code_line s) (range_with_len 0 (length s.filled / 4))
-
-abbrev pub is_executable : Segment → Bool
-is_executable s = has_flag s.flags PF_X
 
 -- those of the executable segments, in the order of the object
 abbrev pub code_listing : Object → List ℕ

@@ -98,11 +98,9 @@ failed Lacks = Memory
 
 abbrev pub WritesAs : Kind → List ℕ → Option (List ℕ) → Option (List ℕ) → ℕ → ℕ → Status → Type 0
 WritesAs own text out later old new status = (Done ≡ status) × Grew out later text
-WritesAs (refusal r) text out later old new status = ⊥
 WritesAs lacks text out later old new status = later ≡ out
-WritesAs unlisted text out later old new status = ⊥
-WritesAs store_failed text out later old new status = ⊥
 WritesAs sink_failed text out later old new status = GrewByPart out later text × Rose old new
+WritesAs other text out later old new status = ⊥
 
 -- what putting a text on out answers
 abbrev pub Writes : List ℕ → Option (List ℕ) → Option (List ℕ) → ℕ → ℕ → Status → Type 0

@@ -2,7 +2,7 @@
 use Rattle.std.specs.Prelude.{◌≡◌, ℕ, ◌⊎◌, List, Option, Result, Ok, Err, IfSome}
 use Rattle.fd_base.specs.Faults.{Rose}
 use Rattle.fd_base.specs.Fetched.{Files}
-use Rattle.proc_run.specs.declared.job.Job.{Job}
+use Rattle.run_model.specs.declared.job.Job.{Job}
 use Rattle.job_text.specs.declared.refusal.JobRefusal.{JobRefusal}
 use Rattle.job_text.specs.Job.{IsJob, IsRefused}
 use Rattle.fdpic_cmd.specs.declared.status.Failure.{Failure}

@@ -12,7 +12,7 @@ use Rattle.load_model.specs.declared.error.LoadRefusal.{LoadRefusal}
 use Rattle.load_model.specs.declared.error.LoadRefusal.TheVariants.{NotBuilt, Elf, NoFile, TooLong, TooManyModules, Unresolved, NotCode, DescriptorsFull, NoRoom, BadAddress}
 use Rattle.job_text.specs.declared.refusal.JobKind.{JobKind}
 use Rattle.job_text.specs.declared.refusal.JobKind.TheVariants.{First, Word, Form, Range, Twice, TooMany as TooManyLines, NoProgram, Small}
-use Rattle.fdpic_cmd.specs.Listing.{word_field, decimal_field, hex_field, name_word}
+use Rattle.fd_base.specs.Fields.{decimal_field, hex_field, name_field}
 
 -- the word of a kind
 abbrev pub kind_word : ElfKind → List ℕ
@@ -50,8 +50,8 @@ load_text (NoFile name) = codes "NoFile " ++ shown name
 load_text (TooLong name) = codes "TooLong " ++ shown name
 load_text (Elf name e) = codes "Elf " ++ shown name ++ codes " " ++ test_text e
 load_text TooManyModules = codes "TooManyModules"
-load_text (Unresolved m name) = codes "Unresolved" ++ decimal_field m ++ word_field (name_word name)
-load_text (NotCode m name) = codes "NotCode" ++ decimal_field m ++ word_field (name_word name)
+load_text (Unresolved m name) = codes "Unresolved" ++ decimal_field m ++ name_field name
+load_text (NotCode m name) = codes "NotCode" ++ decimal_field m ++ name_field name
 load_text (DescriptorsFull n) = codes "DescriptorsFull" ++ decimal_field n
 load_text (NoRoom item) = codes "NoRoom" ++ decimal_field item
 load_text (BadAddress m site) = codes "BadAddress" ++ decimal_field m ++ hex_field site
@@ -91,9 +91,4 @@ line text = codes "fdpic: " ++ text ++ 10 ∷ []
 -- the line of a status; none for Done
 abbrev pub line_of : Status → List ℕ
 line_of Done = []
-line_of Memory = line (status_text Memory)
-line_of Words = line (status_text Words)
-line_of StoreFault = line (status_text StoreFault)
-line_of SinkFault = line (status_text SinkFault)
-line_of (Refused r) = line (status_text (Refused r))
-line_of (Stopped why) = line (status_text (Stopped why))
+line_of status = line (status_text status)

@@ -1,8 +1,9 @@
 -- show F: what an object holds, a line for each thing.
-use Rattle.std.specs.Prelude.{ℕ, suc, Bool, ◌||◌, List, [], ◌∷◌, ◌++◌, length, codes, decimal, Option, Some, None, is_some, unwrap_or, if◌then◌else◌, ◌==◌}
-use Rattle.std.specs.Option.{option_map_or}
+use Rattle.std.specs.Prelude.{ℕ, List, [], ◌++◌, length, codes, decimal, Option, Some, None, unwrap_or, if◌then◌else◌, ◌==◌}
 use Rattle.std.specs.List.{flat_map}
-use Rattle.fd_base.specs.Texts.{hex8, shown}
+use Rattle.fd_base.specs.Fields.{word_field, decimal_field, hex_field, name_field, numbered, line_where}
+use Rattle.elf_model.specs.Inits.{has_inits}
+use Rattle.fd_base.specs.Texts.{shown}
 use Rattle.elf_model.specs.declared.constants.TheConstants.{STB_LOCAL, STB_GLOBAL, STB_WEAK, STT_NOTYPE, STT_OBJECT, STT_FUNC, STT_SECTION, STT_FILE, STV_DEFAULT, STV_INTERNAL, STV_HIDDEN}
 use Rattle.elf_model.specs.declared.object.Kind.{Kind}
 use Rattle.elf_model.specs.declared.object.Kind.TheVariants.{Exec, Dyn}
@@ -11,19 +12,7 @@ use Rattle.elf_model.specs.declared.object.Place.TheVariants.{Undefined, Absolut
 use Rattle.elf_model.specs.declared.object.Segment.{Segment}
 use Rattle.elf_model.specs.declared.object.Symbol.{Symbol}
 use Rattle.elf_model.specs.declared.object.Rel.{Rel}
-use Rattle.elf_model.specs.declared.object.Inits.{Inits}
 use Rattle.elf_model.specs.declared.object.Object.{Object}
-
--- ---- fields, each behind a space
-
-abbrev pub word_field : List ℕ → List ℕ
-word_field word = codes " " ++ word
-
-abbrev pub decimal_field : ℕ → List ℕ
-decimal_field n = codes " " ++ decimal n
-
-abbrev pub hex_field : ℕ → List ℕ
-hex_field n = codes " " ++ hex8 n
 
 -- ---- words
 
@@ -64,10 +53,6 @@ place_word Common = codes "common"
 place_word Dropped = codes "dropped"
 place_word (Section n) = codes "section " ++ decimal n
 
--- a name as it is shown, a dash where there is none
-abbrev pub name_word : Option (List ℕ) → List ℕ
-name_word name = option_map_or shown name (codes "-")
-
 -- ---- lines
 
 unfoldable pub object_line : Object → List ℕ
@@ -83,7 +68,7 @@ needed_line name = codes "needed" ++ word_field (shown name) ++ codes "\n"
 
 unfoldable pub symbol_line : ℕ → Symbol → List ℕ
 symbol_line i s =
-    codes "symbol" ++ decimal_field i ++ word_field (name_word s.name) ++ word_field (binding_word s.binding)
+    codes "symbol" ++ decimal_field i ++ name_field s.name ++ word_field (binding_word s.binding)
     ++ word_field (type_word s.kind) ++ word_field (visibility_word s.visibility) ++ word_field (place_word s.place)
     ++ hex_field s.value ++ decimal_field s.size ++ codes "\n"
 
@@ -93,19 +78,6 @@ rel_line table i r = table ++ decimal_field i ++ hex_field r.site ++ decimal_fie
 
 unfoldable pub fixup_line : ℕ → ℕ → List ℕ
 fixup_line i site = codes "fixup" ++ decimal_field i ++ hex_field site ++ codes "\n"
-
--- the lines of the items from number i on
-abbrev pub numbered : {X : Type 0} → (ℕ → X → List ℕ) → ℕ → List X → List ℕ
-numbered line i [] = []
-numbered line i (x ∷ xs) = line i x ++ numbered line (suc i) xs
-
--- a line that is there or not
-abbrev pub line_where : Bool → List ℕ → List ℕ
-line_where b line = if b then line else []
-
--- whether the object wants something to be called at its start or its end
-abbrev pub has_inits : Inits → Bool
-has_inits inits = is_some inits.init || is_some inits.fini || is_some inits.init_array || is_some inits.fini_array
 
 abbrev pub soname_line : Option (List ℕ) → List ℕ
 soname_line None = []

@@ -1,14 +1,13 @@
 -- A program that is loaded over a memory plan with every slot bound, and what is said of it.
 use Rattle.std.specs.Prelude.{◌≡◌, ℕ, ◌⊎◌, List, Option, Result, Ok, Err, IfSome}
-use Rattle.fd_base.specs.declared.map.MapEntry.{MapEntry}
 use Rattle.fd_base.specs.Fetched.{Files}
 use Rattle.load_model.specs.declared.error.LoadErr.{LoadErr}
 use Rattle.load_model.specs.declared.error.LoadErr.TheVariants.{Refused, StoreFault, Memory}
 use Rattle.load_model.specs.declared.error.LoadRefusal.{LoadRefusal}
-use Rattle.load_model.specs.declared.module.Process.{Process}
 use Rattle.load_model.specs.declared.plan.MemPlan.{MemPlan}
 use Rattle.load_model.specs.Explains.{Explains}
-use Rattle.load_state.specs.Loading.{IsLoaded, IsLoadRefused}
+use Rattle.load_state.specs.Loaded.{Loaded}
+use Rattle.load_state.specs.ProgramLoad.{IsCause, IsLoadRefused, IsProgramLoaded}
 use Rattle.fdpic_cmd.specs.declared.status.Failure.{Failure}
 use Rattle.fdpic_cmd.specs.declared.status.Failure.TheVariants.{Refused as Refuses, StoreFault as Fails, Memory as Lacks}
 use Rattle.fdpic_cmd.specs.declared.status.Refusal.{Refusal}
@@ -18,10 +17,9 @@ use Rattle.fdpic_cmd.specs.Slots.{slot_listing}
 
 -- the program is loaded, and the slots of the process are listed
 pub record IsBound (plan : MemPlan) (name : List ℕ) (told : Files) (o : Outcome) : Type 0 where
-  pub process : Process
-  pub maps : List (List MapEntry)
-  pub loads : IsLoaded plan told name process maps
-  pub lists : o ≡ writes (slot_listing process maps)
+  pub loaded : Loaded
+  pub loads : IsProgramLoaded plan told name loaded
+  pub lists : o ≡ writes (slot_listing loaded.process loaded.maps)
 
 -- loading is refused, and this is said of the refusal
 pub record IsUnbound (plan : MemPlan) (name : List ℕ) (said : LoadRefusal → Refusal) (told : Files) (o : Outcome) : Type 0 where
@@ -44,11 +42,7 @@ load_failure = failure_by Load
 
 -- ---- what the parts of the program answer
 
--- why the program isn't loaded
-abbrev pub IsRefusal : MemPlan → List ℕ → Option Files → LoadRefusal → Type 0
-IsRefusal plan name files r = IfSome files (λ told. IsLoadRefused plan told name r)
-
 -- the text of the slots, or why there is none
 abbrev pub Lists : MemPlan → List ℕ → Option Files → ℕ → ℕ → Result (List ℕ) LoadErr → Type 0
 Lists plan name files old new (Ok text) = IfSome files (λ told. IsBound plan name told (writes text))
-Lists plan name files old new (Err e) = Explains (IsRefusal plan name files) old new e
+Lists plan name files old new (Err e) = Explains (IsCause plan name files) old new e

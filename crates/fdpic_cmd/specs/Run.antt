@@ -2,15 +2,15 @@
 use Rattle.std.specs.Prelude.{◌≡◌, ℕ, ◌⊎◌, List, None}
 use Rattle.fd_base.specs.Fetched.{Files}
 use Rattle.load_model.specs.declared.error.LoadRefusal.{LoadRefusal}
-use Rattle.proc_run.specs.declared.job.Job.{Job}
+use Rattle.run_model.specs.declared.job.Job.{Job}
 use Rattle.run_model.specs.declared.thread.Turned.{Turned}
 use Rattle.run_model.specs.declared.thread.Turned.TheVariants as turned
 use Rattle.run_model.specs.Courses.{Course}
 use Rattle.run_model.specs.Report.{report_of}
-use Rattle.run_process.specs.declared.end.RunEnd.{RunEnd}
-use Rattle.run_process.specs.declared.end.RunEnd.TheVariants as end
-use Rattle.run_process.specs.Ends.{IsRun}
-use Rattle.run_process.specs.Loads.{IsStartRefused}
+use Rattle.proc_run.specs.declared.end.RunEnd.{RunEnd}
+use Rattle.proc_run.specs.declared.end.RunEnd.TheVariants as end
+use Rattle.proc_run.specs.RunEnds.{IsRun}
+use Rattle.proc_run.specs.StartAnswers.{IsStartRefused}
 use Rattle.fdpic_cmd.specs.declared.status.Refusal.TheVariants.{Load}
 use Rattle.fdpic_cmd.specs.declared.status.Status.{Status}
 use Rattle.fdpic_cmd.specs.declared.status.Status.TheVariants.{Done, Memory, StoreFault, SinkFault, Refused, Stopped}
@@ -22,12 +22,7 @@ use Rattle.fdpic_cmd.specs.Outcome.{Outcome, refuses}
 abbrev pub IsStatusOf : Turned → Status → Type 0
 IsStatusOf turned.Ended status = status ≡ Done
 IsStatusOf (turned.Stopped why) status = status ≡ Stopped why
-IsStatusOf turned.Next status = ⊥
-IsStatusOf turned.Yield status = ⊥
-IsStatusOf turned.ThreadDone status = ⊥
-IsStatusOf turned.StoreFault status = ⊥
-IsStatusOf turned.SinkFault status = ⊥
-IsStatusOf turned.Memory status = ⊥
+IsStatusOf other status = ⊥
 
 -- the job is run to its end, and its report is written
 pub record IsReported (job : Job) (told : Files) (o : Outcome) : Type 0 where

@@ -4,6 +4,8 @@ use Rattle.fd_base.specs.Fetched.{Files}
 use Rattle.elf_model.specs.declared.object.Object.{Object}
 use Rattle.elf_model.specs.declared.refusal.ElfRefusal.{ElfRefusal}
 use Rattle.elf_model.specs.Object.{refusal_of, object_of, IsObject}
+use Rattle.fdpic_cmd.specs.declared.show.ObjectText.{ObjectText}
+use Rattle.fdpic_cmd.specs.declared.show.ObjectText.TheVariants.{Listing, Code}
 use Rattle.fdpic_cmd.specs.declared.status.Refusal.TheVariants.{Elf}
 use Rattle.fd_base.specs.Faults.{Rose}
 use Rattle.fdpic_cmd.specs.declared.status.Failure.{Failure}
@@ -24,6 +26,11 @@ listed listing name bytes = listed_unless (refusal_of bytes) listing name bytes
 -- a listing of the object in a file
 abbrev pub ListMeans : (Object → List ℕ) → List ℕ → Files → Outcome → Type 0
 ListMeans listing name told o = OnFile told name (λ bytes o. o ≡ listed listing name bytes) o
+
+-- the text of an object that is asked for
+abbrev pub text_of : ObjectText → Object → List ℕ
+text_of Listing = object_listing
+text_of Code = code_listing
 
 abbrev pub ShowMeans : List ℕ → Files → Outcome → Type 0
 ShowMeans name = ListMeans object_listing name

@@ -80,7 +80,7 @@ fn failure_of(file: &Name, error: LoadErr) -> Failure
 }
 
 /// The text of `bind F TEXT DATA`.
-#[tactic(auto, using(crate::proofs::Loading::given_text))]
+#[tactic(auto, using(crate::proofs::SlotListings::given_text))]
 pub fn bind<S: Store>(
     alloc: Global,
     store: &mut S,

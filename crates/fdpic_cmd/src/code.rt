@@ -3,6 +3,7 @@
 ghost use Rattle.std.specs.Prelude.{◌≡◌, ◌+◌, ◌*◌, ◌<◌, ◌≤◌, ◌^◌, ◌++◌, ◌/◌, IfOk, OnOk, length, take, filter, All};
 ghost use Rattle.std.specs.List.{flat_map};
 ghost use Rattle.std.specs.Int.{bytes_high_first};
+ghost use Rattle.elf_model.specs.Places.{is_executable};
 ghost use Rattle.hex.specs.Hex.{encode_lower};
 ghost use Rattle.elf_model.specs.Sound.{IsSized, IsSound};
 ghost use Rattle.a32_isa.specs.Decoding.{decode_of};
@@ -62,12 +63,6 @@ fn put_segment_code(alloc: Global, out: &mut Bytes, s: &Segment) -> Result<(), M
     Ok(())
 }
 
-fn is_executable(s: &Segment) -> bool
-    ensures { result ≡ spec.is_executable s.now }
-{
-    s.flags & PF_X != 0
-}
-
 /// The words of the executable segments, a line for each.
 pub fn code_listing(alloc: Global, o: &Object) -> Result<Bytes, Memory>
     requires { IsSound o.now }
@@ -80,10 +75,10 @@ pub fn code_listing(alloc: Global, o: &Object) -> Result<Bytes, Memory>
 
 fn put_code(alloc: Global, out: &mut Bytes, segments: &[Segment]) -> Result<(), Memory>
     requires { All IsSized segments.now }
-    ensures { OnOk result (out.new ≡ out.old ++ flat_map spec.segment_code (filter spec.is_executable segments.now)) }
+    ensures { OnOk result (out.new ≡ out.old ++ flat_map spec.segment_code (filter is_executable segments.now)) }
 {
     for segment in segments {
-        if is_executable(segment) {
+        if segment.is_executable() {
             put_segment_code(alloc, out, segment)?;
         }
     }

@@ -18,7 +18,7 @@ use crate::command::{Command, command_of};
 use crate::job::bind_job;
 use crate::line::line;
 use crate::run::run_job;
-use crate::show::{code, show};
+use crate::show::{ObjectText, list};
 use crate::status::{Failure, Status, failed};
 use fd_base::{Bytes, Sink, SinkErr, Store};
 use std::alloc::Global;
@@ -49,16 +49,16 @@ fn say<O: Sink>(out: &mut O, text: Result<Bytes, Failure>) -> Status
 }
 
 /// Does a command, and writes its text or puts its file.
-#[tactic(auto, using(crate::proofs::Said::said))]
+#[tactic(auto, using(crate::proofs::CommandEnds::said))]
 fn perform<S: Store, O: Sink>(
     alloc: Global,
     command: &Command,
     store: &mut S,
     out: &mut O,
 ) -> Status
-    ensures ends { Ends (is_at_once command.now) (Means command.now)
-        (outside (S.files store.old) (S.faults store.old) (O.bytes out.old) (O.faults out.old))
-        (outside (S.files store.new) (S.faults store.new) (O.bytes out.new) (O.faults out.new)) result }
+    ensures ends { let old = outside (S.files store.old) (S.faults store.old) (O.bytes out.old) (O.faults out.old) in
+        let new = outside (S.files store.new) (S.faults store.new) (O.bytes out.new) (O.faults out.new) in
+        Ends (is_at_once command.now) (Means command.now) old new result }
     ensures stays { result ≡ Status.StoreFault → O.bytes out.new ≡ O.bytes out.old }
     ensures files { KeepsOthers (target command.now) (S.files store.old) (S.files store.new) }
     ensures store_count { S.faults store.old ≤ S.faults store.new }
@@ -74,23 +74,23 @@ fn perform<S: Store, O: Sink>(
             say(out, text)
         }
         Command::Code { file } => {
-            let text = code(alloc, store, file);
+            let text = list(alloc, store, file, ObjectText::Code);
             say(out, text)
         }
         Command::Run { job } => run_job(alloc, store, job, out),
         Command::Show { file } => {
-            let text = show(alloc, store, file);
+            let text = list(alloc, store, file, ObjectText::Listing);
             say(out, text)
         }
     }
 }
 
 /// Does what the words say.
-#[tactic(auto, using(crate::proofs::Answered::nothing_done, crate::proofs::Answered::nothing_kept))]
+#[tactic(auto, using(crate::proofs::ClaimParts::nothing_done, crate::proofs::ClaimParts::nothing_kept))]
 fn answer<S: Store, O: Sink>(alloc: Global, words: &[Bytes], store: &mut S, out: &mut O) -> Status
-    ensures answer { Answers (command_of words.now)
-        (outside (S.files store.old) (S.faults store.old) (O.bytes out.old) (O.faults out.old))
-        (outside (S.files store.new) (S.faults store.new) (O.bytes out.new) (O.faults out.new)) result }
+    ensures answer { let old = outside (S.files store.old) (S.faults store.old) (O.bytes out.old) (O.faults out.old) in
+        let new = outside (S.files store.new) (S.faults store.new) (O.bytes out.new) (O.faults out.new) in
+        Answers (command_of words.now) old new result }
     ensures untouched { command_of words.now ≡ None → (store.new ≡ store.old) × (out.new ≡ out.old) }
     ensures stays { result ≡ Status.StoreFault → O.bytes out.new ≡ O.bytes out.old }
     ensures files { KeepsFiles (command_of words.now) (S.files store.old) (S.files store.new) }
@@ -105,7 +105,7 @@ fn answer<S: Store, O: Sink>(alloc: Global, words: &[Bytes], store: &mut S, out:
 }
 
 /// Puts the line of a status on err by one put. Want of memory for it takes the status's place.
-#[tactic(auto, using(crate::proofs::Answered::line_is))]
+#[tactic(auto, using(crate::proofs::ClaimParts::line_is))]
 fn report<E: Sink>(alloc: Global, status: Status, err: &mut E) -> Status
     ensures line { Reports (E.bytes err.old) (E.bytes err.new) (E.faults err.old) (E.faults err.new) result }
     ensures status { IsStatus result status }
@@ -124,32 +124,7 @@ fn report<E: Sink>(alloc: Global, status: Status, err: &mut E) -> Status
     }
 }
 
-/// Does what the words say, and puts the line of the status on err.
-#[tactic(auto, using(crate::proofs::Answered::answered))]
-fn entry<S: Store, O: Sink, E: Sink>(
-    alloc: Global,
-    words: &[Bytes],
-    store: &mut S,
-    out: &mut O,
-    err: &mut E,
-) -> Status
-    ensures answer { Answers (command_of words.now)
-        (outside (S.files store.old) (S.faults store.old) (O.bytes out.old) (O.faults out.old))
-        (outside (S.files store.new) (S.faults store.new) (O.bytes out.new) (O.faults out.new)) result }
-    ensures untouched { command_of words.now ≡ None → (store.new ≡ store.old) × (out.new ≡ out.old) }
-    ensures stays { result ≡ Status.StoreFault → O.bytes out.new ≡ O.bytes out.old }
-    ensures files { KeepsFiles (command_of words.now) (S.files store.old) (S.files store.new) }
-    ensures line { Reports (E.bytes err.old) (E.bytes err.new) (E.faults err.old) (E.faults err.new) result }
-    ensures store_count { S.faults store.old ≤ S.faults store.new }
-    ensures out_count { O.faults out.old ≤ O.faults out.new }
-    ensures err_count { E.faults err.old ≤ E.faults err.new }
-{
-    let status = answer(alloc, words, store, out);
-    report(alloc, status, err)
-}
-
 /// The program: does what the words say, and tells how it ended. Nothing is required.
-#[tactic(auto, using(crate::proofs::Claims::store_fault, crate::proofs::Claims::sink_fault, crate::proofs::Claims::words, crate::proofs::Claims::no_form, crate::proofs::Claims::refused, crate::proofs::Claims::silent, crate::proofs::Claims::part, crate::proofs::Claims::exact, crate::proofs::Claims::complete))]
 pub fn top<S: Store, O: Sink, E: Sink>(
     alloc: Global,
     words: &[Bytes],
@@ -165,16 +140,17 @@ pub fn top<S: Store, O: Sink, E: Sink>(
     ensures store_fault { result ≡ Status.StoreFault → Rose (S.faults store.old) (S.faults store.new) }
     ensures sink_fault { result ≡ Status.SinkFault → Rose (O.faults out.old) (O.faults out.new) }
     // A refusal is what the command means.
-    ensures refused { (r : Refusal) → result ≡ Status.Refused r → IfSome (S.files store.old) (λ told. WordsMean words.now told (refuses r)) }
+    ensures refused { (r : Refusal) → result ≡ Status.Refused r
+        → IfSome (S.files store.old) (λ told. WordsMean words.now told (refuses r)) }
     // What the command means is the answer, unless a fault was counted or memory was wanted.
-    ensures exact { (told : Files) → S.files store.old ≡ Some told → (o : Outcome) → WordsMean words.now told o
-        → Yields o.status
-        (outside (S.files store.old) (S.faults store.old) (O.bytes out.old) (O.faults out.old))
-        (outside (S.files store.new) (S.faults store.new) (O.bytes out.new) (O.faults out.new)) result }
+    ensures exact { let old = outside (S.files store.old) (S.faults store.old) (O.bytes out.old) (O.faults out.old) in
+        let new = outside (S.files store.new) (S.faults store.new) (O.bytes out.new) (O.faults out.new) in
+        (told : Files) → old.files ≡ Some told → (o : Outcome) → WordsMean words.now told o
+        → Yields o.status old new result }
     // A status of the command's own is what the command means: out grew by its text, and its file was put.
-    ensures came { kind_of result ≡ own → IfSome (S.files store.old) (CameTo (WordsMean words.now)
-        (outside (S.files store.old) (S.faults store.old) (O.bytes out.old) (O.faults out.old))
-        (outside (S.files store.new) (S.faults store.new) (O.bytes out.new) (O.faults out.new)) result) }
+    ensures came { let old = outside (S.files store.old) (S.faults store.old) (O.bytes out.old) (O.faults out.old) in
+        let new = outside (S.files store.new) (S.faults store.new) (O.bytes out.new) (O.faults out.new) in
+        kind_of result ≡ own → IfSome old.files (CameTo (WordsMean words.now) old new result) }
     // Where the words are `run JOB`, out grew by the report of the run of the job in that file, and each call of its journal
     // arrives.
     ensures calls { kind_of result ≡ own → (file : List ℕ) → command_of words.now ≡ Some (Run file)
@@ -198,5 +174,6 @@ pub fn top<S: Store, O: Sink, E: Sink>(
     ensures out_count { O.faults out.old ≤ O.faults out.new }
     ensures err_count { E.faults err.old ≤ E.faults err.new }
 {
-    entry(alloc, words, store, out, err)
+    let status = answer(alloc, words, store, out);
+    report(alloc, status, err)
 }

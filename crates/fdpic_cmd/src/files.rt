@@ -29,7 +29,7 @@ pub fn fetched<S: Store>(alloc: Global, store: &mut S, name: &Name) -> Result<By
 }
 
 /// The object that a file is.
-#[tactic(auto, using(crate::proofs::Opened::opened, crate::proofs::Opened::no_object, crate::proofs::Opened::no_file))]
+#[tactic(auto, using(crate::proofs::OpenedObjects::opened, crate::proofs::OpenedObjects::no_object, crate::proofs::OpenedObjects::no_file))]
 pub fn open<S: Store>(alloc: Global, store: &mut S, name: &Name) -> Result<Object, Failure>
     ensures answer { Opens (S.files store.old) name.now (S.faults store.old) (S.faults store.new) result }
     ensures sound { IfOk result IsSound }

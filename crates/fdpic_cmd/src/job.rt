@@ -10,11 +10,11 @@ use crate::program::program_slots;
 use crate::status::{Failure, Refusal};
 use fd_base::{Bytes, Name, Store};
 use job_text::{JobErr, read_job};
-use proc_run::Job;
+use run_model::Job;
 use std::alloc::Global;
 
 /// The job that a file holds.
-#[tactic(auto, using(crate::proofs::Jobbed::opened, crate::proofs::Jobbed::no_job, crate::proofs::Jobbed::no_file))]
+#[tactic(auto, using(crate::proofs::JobFiles::opened, crate::proofs::JobFiles::no_job, crate::proofs::JobFiles::no_file))]
 pub fn open_job<S: Store>(alloc: Global, store: &mut S, name: &Name) -> Result<Job, Failure>
     ensures answer { OpensJob (S.files store.old) name.now (S.faults store.old) (S.faults store.new) result }
     ensures fits { IfOk result (λ job. Fits job.plan) }
@@ -33,7 +33,7 @@ pub fn open_job<S: Store>(alloc: Global, store: &mut S, name: &Name) -> Result<J
 }
 
 /// The text of `bind JOB`.
-#[tactic(auto, using(crate::proofs::Jobbed::given, crate::proofs::Jobbed::given_none))]
+#[tactic(auto, using(crate::proofs::JobFiles::given, crate::proofs::JobFiles::given_none))]
 pub fn bind_job<S: Store>(alloc: Global, store: &mut S, name: &Name) -> Result<Bytes, Failure>
     ensures answer { Gives (BindJobMeans name.now) (S.files store.old) (S.faults store.old) (S.faults store.new) result }
     ensures files { S.files store.new ≡ S.files store.old }

@@ -2,13 +2,14 @@
 
 ghost use Rattle.std.specs.Prelude.{◌≡◌, ◌++◌, IfOk, OnOk, codes};
 ghost use Rattle.fd_base.specs.Texts.{shown};
-ghost use Rattle.fdpic_cmd.specs.Listing.{decimal_field, word_field, name_word};
+ghost use Rattle.fd_base.specs.Fields.{decimal_field, name_field};
 ghost use Rattle.fdpic_cmd.specs.Lines as spec;
 
-use crate::listing::{put_hex, put_name, put_number};
 use crate::status::{Refusal, Status};
 use elf_model::{ElfKind, ElfRefusal};
-use fd_base::{Bytes, Memory, Name, put_dec, put_shown};
+use fd_base::{
+    Bytes, Memory, Name, put_dec, put_decimal_field, put_hex_field, put_name_field, put_shown,
+};
 use job_text::JobKind;
 use load_model::LoadRefusal;
 use std::alloc::Global;
@@ -79,11 +80,11 @@ fn put_named(out: &mut Bytes, word: &[u8], name: &Name) -> Result<(), Memory>
 
 /// Puts a word, the number of a module and a symbol's name.
 fn put_symbol(out: &mut Bytes, word: &[u8], m: u32, name: &Option<Name>) -> Result<(), Memory>
-    ensures { OnOk result (out.new ≡ out.old ++ (word.now ++ decimal_field m ++ word_field (name_word name.now))) }
+    ensures { OnOk result (out.new ≡ out.old ++ (word.now ++ decimal_field m ++ name_field name.now)) }
 {
     out.extend_from_slice(word)?;
-    put_number(out, m)?;
-    put_name(out, name)
+    put_decimal_field(out, m)?;
+    put_name_field(out, name)
 }
 
 /// Puts a word and a number.
@@ -91,7 +92,7 @@ fn put_counted(out: &mut Bytes, word: &[u8], n: u32) -> Result<(), Memory>
     ensures { OnOk result (out.new ≡ out.old ++ (word.now ++ decimal_field n)) }
 {
     out.extend_from_slice(word)?;
-    put_number(out, n)
+    put_decimal_field(out, n)
 }
 
 /// Puts what is said of a refused load.
@@ -115,7 +116,7 @@ fn put_load(out: &mut Bytes, refusal: &LoadRefusal) -> Result<(), Memory>
         LoadRefusal::NoRoom(item) => put_counted(out, b"NoRoom", *item),
         LoadRefusal::BadAddress(m, site) => {
             put_counted(out, b"BadAddress", *m)?;
-            put_hex(out, *site)
+            put_hex_field(out, *site)
         }
     }
 }

@@ -4,45 +4,16 @@ ghost use Rattle.std.specs.Prelude.{◌≡◌, ◌++◌, ◌<◌, ◌^◌, IfOk,
 ghost use Rattle.std.specs.List.{flat_map};
 ghost use Rattle.elf_model.specs.Sound.{IsSized, IsSound};
 ghost use Rattle.fd_base.specs.Texts.{shown};
+ghost use Rattle.fd_base.specs.Fields as fields;
 ghost use Rattle.fdpic_cmd.specs.Listing as spec;
 
 use elf_model::constants::*;
-use elf_model::{Inits, Kind, Object, Place, Rel, Segment, Symbol};
-use fd_base::{Bytes, Memory, Name, put_dec, put_hex8, put_shown};
+use elf_model::{Kind, Object, Place, Rel, Segment, Symbol};
+use fd_base::{
+    Bytes, Memory, Name, put_decimal_field, put_hex_field, put_index_field, put_name_field,
+    put_shown, put_word_field,
+};
 use std::alloc::Global;
-
-/// Puts a word behind a space.
-fn put_word(out: &mut Bytes, word: &[u8]) -> Result<(), Memory>
-    ensures { OnOk result (out.new ≡ out.old ++ spec.word_field word.now) }
-{
-    out.push(b' ')?;
-    out.extend_from_slice(word)
-}
-
-/// Puts a number behind a space.
-pub fn put_number(out: &mut Bytes, n: u32) -> Result<(), Memory>
-    ensures { OnOk result (out.new ≡ out.old ++ spec.decimal_field n) }
-{
-    out.push(b' ')?;
-    put_dec(out, n)
-}
-
-/// Puts the number of an item behind a space.
-fn put_index(out: &mut Bytes, i: usize) -> Result<(), Memory>
-    ensures { OnOk result (out.new ≡ out.old ++ spec.decimal_field i) }
-{
-    let mut buffer = itoa::Buffer::new();
-    out.push(b' ')?;
-    out.extend_from_slice(buffer.format(i).as_bytes())
-}
-
-/// Puts `0x` and eight digits behind a space.
-pub fn put_hex(out: &mut Bytes, n: u32) -> Result<(), Memory>
-    ensures { OnOk result (out.new ≡ out.old ++ spec.hex_field n) }
-{
-    out.push(b' ')?;
-    put_hex8(out, n)
-}
 
 #[tactic(auto, unfolding(crate::specs::Listing::object_line))]
 fn put_object_line(out: &mut Bytes, o: &Object) -> Result<(), Memory>
@@ -54,9 +25,9 @@ fn put_object_line(out: &mut Bytes, o: &Object) -> Result<(), Memory>
         Kind::Dyn => b"dyn".as_slice(),
     })?;
     out.extend_from_slice(b" entry")?;
-    put_hex(out, o.entry)?;
+    put_hex_field(out, o.entry)?;
     out.extend_from_slice(b" got")?;
-    put_hex(out, o.got)?;
+    put_hex_field(out, o.got)?;
     out.push(b'\n')
 }
 
@@ -66,18 +37,18 @@ fn put_segment_line(out: &mut Bytes, i: usize, s: &Segment) -> Result<(), Memory
     ensures { OnOk result (out.new ≡ out.old ++ spec.segment_line i s.now) }
 {
     out.extend_from_slice(b"segment")?;
-    put_index(out, i)?;
-    put_hex(out, s.vaddr)?;
-    put_hex(out, s.filled.len() as u32)?;
-    put_hex(out, s.memsz)?;
-    put_number(out, s.flags)?;
-    put_number(out, s.align)?;
+    put_index_field(out, i)?;
+    put_hex_field(out, s.vaddr)?;
+    put_hex_field(out, s.filled.len() as u32)?;
+    put_hex_field(out, s.memsz)?;
+    put_decimal_field(out, s.flags)?;
+    put_decimal_field(out, s.align)?;
     out.push(b'\n')
 }
 
 fn put_segments(out: &mut Bytes, segments: &[Segment]) -> Result<(), Memory>
     requires { All IsSized segments.now }
-    ensures { OnOk result (out.new ≡ out.old ++ spec.numbered spec.segment_line 0 segments.now) }
+    ensures { OnOk result (out.new ≡ out.old ++ fields.numbered spec.segment_line 0 segments.now) }
 {
     for (i, segment) in segments.iter().enumerate() {
         put_segment_line(out, i, segment)?;
@@ -116,69 +87,56 @@ fn put_soname(out: &mut Bytes, soname: &Option<Name>) -> Result<(), Memory>
     }
 }
 
-/// Puts a name behind a space, a dash where there is none.
-pub fn put_name(out: &mut Bytes, name: &Option<Name>) -> Result<(), Memory>
-    ensures { OnOk result (out.new ≡ out.old ++ spec.word_field (spec.name_word name.now)) }
-{
-    match name {
-        None => put_word(out, b"-"),
-        Some(name) => {
-            out.push(b' ')?;
-            put_shown(out, name)
-        }
-    }
-}
-
 #[tactic(auto, unfolding(crate::specs::Listing::binding_word))]
 fn put_binding(out: &mut Bytes, binding: u8) -> Result<(), Memory>
-    ensures { OnOk result (out.new ≡ out.old ++ spec.word_field (spec.binding_word binding)) }
+    ensures { OnOk result (out.new ≡ out.old ++ fields.word_field (spec.binding_word binding)) }
 {
     match binding {
-        STB_LOCAL => put_word(out, b"local"),
-        STB_GLOBAL => put_word(out, b"global"),
-        STB_WEAK => put_word(out, b"weak"),
-        _ => put_number(out, u32::from(binding)),
+        STB_LOCAL => put_word_field(out, b"local"),
+        STB_GLOBAL => put_word_field(out, b"global"),
+        STB_WEAK => put_word_field(out, b"weak"),
+        _ => put_decimal_field(out, u32::from(binding)),
     }
 }
 
 #[tactic(auto, unfolding(crate::specs::Listing::type_word))]
 fn put_type(out: &mut Bytes, kind: u8) -> Result<(), Memory>
-    ensures { OnOk result (out.new ≡ out.old ++ spec.word_field (spec.type_word kind)) }
+    ensures { OnOk result (out.new ≡ out.old ++ fields.word_field (spec.type_word kind)) }
 {
     match kind {
-        STT_NOTYPE => put_word(out, b"notype"),
-        STT_OBJECT => put_word(out, b"object"),
-        STT_FUNC => put_word(out, b"func"),
-        STT_SECTION => put_word(out, b"section"),
-        STT_FILE => put_word(out, b"file"),
-        _ => put_number(out, u32::from(kind)),
+        STT_NOTYPE => put_word_field(out, b"notype"),
+        STT_OBJECT => put_word_field(out, b"object"),
+        STT_FUNC => put_word_field(out, b"func"),
+        STT_SECTION => put_word_field(out, b"section"),
+        STT_FILE => put_word_field(out, b"file"),
+        _ => put_decimal_field(out, u32::from(kind)),
     }
 }
 
 #[tactic(auto, unfolding(crate::specs::Listing::visibility_word))]
 fn put_visibility(out: &mut Bytes, visibility: u8) -> Result<(), Memory>
-    ensures { OnOk result (out.new ≡ out.old ++ spec.word_field (spec.visibility_word visibility)) }
+    ensures { OnOk result (out.new ≡ out.old ++ fields.word_field (spec.visibility_word visibility)) }
 {
     match visibility {
-        STV_DEFAULT => put_word(out, b"default"),
-        STV_INTERNAL => put_word(out, b"internal"),
-        STV_HIDDEN => put_word(out, b"hidden"),
-        _ => put_word(out, b"protected"),
+        STV_DEFAULT => put_word_field(out, b"default"),
+        STV_INTERNAL => put_word_field(out, b"internal"),
+        STV_HIDDEN => put_word_field(out, b"hidden"),
+        _ => put_word_field(out, b"protected"),
     }
 }
 
 fn put_place(out: &mut Bytes, place: Place) -> Result<(), Memory>
-    ensures { OnOk result (out.new ≡ out.old ++ spec.word_field (spec.place_word place)) }
+    ensures { OnOk result (out.new ≡ out.old ++ fields.word_field (spec.place_word place)) }
 {
     match place {
-        Place::Undefined => put_word(out, b"undef"),
-        Place::Absolute => put_word(out, b"abs"),
-        Place::Here => put_word(out, b"here"),
-        Place::Common => put_word(out, b"common"),
-        Place::Dropped => put_word(out, b"dropped"),
+        Place::Undefined => put_word_field(out, b"undef"),
+        Place::Absolute => put_word_field(out, b"abs"),
+        Place::Here => put_word_field(out, b"here"),
+        Place::Common => put_word_field(out, b"common"),
+        Place::Dropped => put_word_field(out, b"dropped"),
         Place::Section(n) => {
-            put_word(out, b"section")?;
-            put_number(out, n)
+            put_word_field(out, b"section")?;
+            put_decimal_field(out, n)
         }
     }
 }
@@ -188,19 +146,19 @@ fn put_symbol_line(out: &mut Bytes, i: usize, s: &Symbol) -> Result<(), Memory>
     ensures { OnOk result (out.new ≡ out.old ++ spec.symbol_line i s.now) }
 {
     out.extend_from_slice(b"symbol")?;
-    put_index(out, i)?;
-    put_name(out, &s.name)?;
+    put_index_field(out, i)?;
+    put_name_field(out, &s.name)?;
     put_binding(out, s.binding)?;
     put_type(out, s.kind)?;
     put_visibility(out, s.visibility)?;
     put_place(out, s.place)?;
-    put_hex(out, s.value)?;
-    put_number(out, s.size)?;
+    put_hex_field(out, s.value)?;
+    put_decimal_field(out, s.size)?;
     out.push(b'\n')
 }
 
 fn put_symbols(out: &mut Bytes, symbols: &[Symbol]) -> Result<(), Memory>
-    ensures { OnOk result (out.new ≡ out.old ++ spec.numbered spec.symbol_line 0 symbols.now) }
+    ensures { OnOk result (out.new ≡ out.old ++ fields.numbered spec.symbol_line 0 symbols.now) }
 {
     for (i, symbol) in symbols.iter().enumerate() {
         put_symbol_line(out, i, symbol)?;
@@ -213,16 +171,16 @@ fn put_rel_line(out: &mut Bytes, table: &[u8], i: usize, r: &Rel) -> Result<(), 
     ensures { OnOk result (out.new ≡ out.old ++ spec.rel_line table.now i r.now) }
 {
     out.extend_from_slice(table)?;
-    put_index(out, i)?;
-    put_hex(out, r.site)?;
-    put_number(out, u32::from(r.kind))?;
-    put_number(out, r.symbol)?;
+    put_index_field(out, i)?;
+    put_hex_field(out, r.site)?;
+    put_decimal_field(out, u32::from(r.kind))?;
+    put_decimal_field(out, r.symbol)?;
     out.push(b'\n')
 }
 
 /// Puts the lines of a table of relocations, each beginning with a word.
 fn put_rels(out: &mut Bytes, table: &[u8], rels: &[Rel]) -> Result<(), Memory>
-    ensures { OnOk result (out.new ≡ out.old ++ spec.numbered (spec.rel_line table.now) 0 rels.now) }
+    ensures { OnOk result (out.new ≡ out.old ++ fields.numbered (spec.rel_line table.now) 0 rels.now) }
 {
     for (i, rel) in rels.iter().enumerate() {
         put_rel_line(out, table, i, rel)?;
@@ -235,13 +193,13 @@ fn put_fixup_line(out: &mut Bytes, i: usize, site: u32) -> Result<(), Memory>
     ensures { OnOk result (out.new ≡ out.old ++ spec.fixup_line i site) }
 {
     out.extend_from_slice(b"fixup")?;
-    put_index(out, i)?;
-    put_hex(out, site)?;
+    put_index_field(out, i)?;
+    put_hex_field(out, site)?;
     out.push(b'\n')
 }
 
 fn put_fixups(out: &mut Bytes, sites: &[u32]) -> Result<(), Memory>
-    ensures { OnOk result (out.new ≡ out.old ++ spec.numbered spec.fixup_line 0 sites.now) }
+    ensures { OnOk result (out.new ≡ out.old ++ fields.numbered spec.fixup_line 0 sites.now) }
 {
     for (i, site) in sites.iter().enumerate() {
         put_fixup_line(out, i, *site)?;
@@ -251,7 +209,7 @@ fn put_fixups(out: &mut Bytes, sites: &[u32]) -> Result<(), Memory>
 
 /// Puts a line where it holds.
 fn put_where(out: &mut Bytes, holds: bool, line: &[u8]) -> Result<(), Memory>
-    ensures { OnOk result (out.new ≡ out.old ++ spec.line_where holds line.now) }
+    ensures { OnOk result (out.new ≡ out.old ++ fields.line_where holds line.now) }
 {
     if holds {
         out.extend_from_slice(line)
@@ -260,21 +218,12 @@ fn put_where(out: &mut Bytes, holds: bool, line: &[u8]) -> Result<(), Memory>
     }
 }
 
-fn has_inits(inits: &Inits) -> bool
-    ensures { result ≡ spec.has_inits inits.now }
-{
-    inits.init.is_some()
-        || inits.fini.is_some()
-        || inits.init_array.is_some()
-        || inits.fini_array.is_some()
-}
-
 fn put_flags(out: &mut Bytes, o: &Object) -> Result<(), Memory>
     ensures { OnOk result (out.new ≡ out.old ++ spec.flag_lines o.entry.now) }
 {
     put_where(out, o.symbolic, b"flag symbolic\n")?;
     put_where(out, o.now, b"flag now\n")?;
-    put_where(out, has_inits(&o.inits), b"flag init\n")
+    put_where(out, o.inits.has_any(), b"flag init\n")
 }
 
 /// The fixups, none where there is no list.

@@ -7,7 +7,7 @@ ghost use Rattle.fdpic_cmd.specs.Run as spec;
 use crate::job::open_job;
 use crate::status::{Refusal, Status, failed};
 use fd_base::{Name, Sink, Store};
-use run_process::{RunEnd, run};
+use proc_run::{RunEnd, run};
 use std::alloc::Global;
 
 /// The status that the end of a run comes to.
@@ -32,9 +32,9 @@ pub fn run_job<S: Store, O: Sink>(
     job_file: &Name,
     out: &mut O,
 ) -> Status
-    ensures ends { Ends false (spec.RunMeans job_file.now)
-        (outside (S.files store.old) (S.faults store.old) (O.bytes out.old) (O.faults out.old))
-        (outside (S.files store.new) (S.faults store.new) (O.bytes out.new) (O.faults out.new)) result }
+    ensures ends { let old = outside (S.files store.old) (S.faults store.old) (O.bytes out.old) (O.faults out.old) in
+        let new = outside (S.files store.new) (S.faults store.new) (O.bytes out.new) (O.faults out.new) in
+        Ends false (spec.RunMeans job_file.now) old new result }
     ensures stays { result ≡ Status.StoreFault → O.bytes out.new ≡ O.bytes out.old }
     ensures files { S.files store.new ≡ S.files store.old }
     ensures store_count { S.faults store.old ≤ S.faults store.new }

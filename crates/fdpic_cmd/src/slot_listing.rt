@@ -4,9 +4,8 @@ ghost use Rattle.std.specs.Prelude.{◌≡◌, ◌++◌, IfOk, OnOk};
 ghost use Rattle.load_state.specs.Consistent.{IsConsistent};
 ghost use Rattle.fdpic_cmd.specs.Slots as spec;
 
-use crate::listing::{put_hex, put_number};
 use elf_model::constants::MAX_ENTRIES;
-use fd_base::{Bytes, Memory};
+use fd_base::{Bytes, Memory, put_decimal_field, put_hex_field};
 use load_model::{MAX_MODULES, SlotPair};
 use mod_load::Loader;
 use std::alloc::Global;
@@ -17,11 +16,11 @@ fn put_slot_line(out: &mut Bytes, m: u32, k: u32, pair: &SlotPair) -> Result<(),
     ensures { OnOk result (out.new ≡ out.old ++ spec.slot_line m k pair.now) }
 {
     out.extend_from_slice(b"slot")?;
-    put_number(out, m)?;
-    put_number(out, k)?;
-    put_hex(out, pair.addr)?;
-    put_hex(out, pair.code)?;
-    put_hex(out, pair.got)?;
+    put_decimal_field(out, m)?;
+    put_decimal_field(out, k)?;
+    put_hex_field(out, pair.addr)?;
+    put_hex_field(out, pair.code)?;
+    put_hex_field(out, pair.got)?;
     out.push(b'\n')
 }
 

@@ -46,7 +46,7 @@ pub enum Status {
 
 impl Status {
     ghost use Rattle.std.specs.Prelude.{◌≡◌};
-    ghost use Rattle.fdpic_cmd.specs.Exits.{exit_of};
+    ghost use Rattle.fdpic_cmd.specs.parts.Exits.{exit_of};
 
     /// The exit status of the process.
     pub fn code(&self) -> u8

@@ -1,15 +1,13 @@
 -- The free slots, by their definition and as they are kept.
-use Rattle.std.proofs.Common.{◌≡◌, ◌≢◌, ℕ, zero, suc, ◌+◌, ◌-◌, ◌*◌, ◌<◌, ◌≤◌, ◌⊎◌, inl, inr, Bool, true, false, cond, Option, Some, None, List, [], ◌∷◌, ◌++◌, length, set, drop, drop-cons, add-one, map, get_or, refl, sym, ap, ◌∙◌, subst, arith, All}
-use Rattle.std.specs.Prelude.{not, filter, slice_get, is_some, is_none, position, count_by, option_map, Contains, AllPairs}
+use Rattle.std.proofs.Common.{◌≡◌, ℕ, zero, suc, ◌+◌, ◌-◌, ◌<◌, ◌≤◌, true, false, cond, Option, Some, None, List, [], ◌∷◌, length, set, drop, drop-cons, add-one, map, get_or, refl, sym, ap, ◌∙◌, arith}
+use Rattle.std.specs.Prelude.{not, filter, slice_get, is_some, is_none, position, count_by}
 use Rattle.std.specs.List.{range_with_len, position_from}
-use Rattle.std.specs.FinMap.{get}
-use Rattle.std.proofs.lemmas.Bool.{false≢true}
 use Rattle.std.proofs.lemmas.Iterator.Adapters.{position_from-zero}
 use Rattle.std.proofs.lemmas.List.Sums.{length-filter}
 use Rattle.elf_model.specs.declared.func.Func.{Func}
-use Rattle.func_desc.specs.Functions.{func_cmp, AddrMap, has_addr}
+use Rattle.func_desc.specs.Functions.{AddrMap, has_addr}
 use Rattle.func_desc.specs.Pool.{Pool, slot_addr, free_slots}
-use Rattle.func_desc.specs.Inside.{free_from, addrs_of, IsKept}
+use Rattle.func_desc.specs.parts.Inside.{free_from, addrs_of, IsKept}
 
 -- the slots from number k on that the map leaves free
 free_by : (m : AddrMap) (base k : ℕ) (slots : List (Option Func)) → ((i : ℕ) (slot : Option Func) → slice_get slots i ≡ Some slot → has_addr m (slot_addr base (k + i)) ≡ is_some slot)

@@ -1,16 +1,18 @@
 -- What a pool's map is after a slot or another address was given.
-use Rattle.std.proofs.Common.{◌≡◌, ◌≢◌, ℕ, zero, suc, ◌+◌, ◌*◌, ◌<◌, ◌≤◌, ◌⊎◌, inl, inr, Bool, true, false, cond, ◌||◌, Option, Some, None, List, [], ◌∷◌, ◌++◌, length, set, replicate, append_assoc, length-set, refl, sym, ap, ◌∙◌, subst, arith, eqb}
+use Rattle.std.proofs.Common.{◌≡◌, ◌≢◌, ℕ, zero, suc, ◌+◌, ◌*◌, ◌<◌, ◌⊎◌, inl, inr, Bool, true, false, cond, ◌||◌, Option, Some, None, List, [], ◌∷◌, ◌++◌, length, set, replicate, append_assoc, length-set, refl, sym, ap, ◌∙◌, arith}
 use Rattle.std.specs.Prelude.{◌==◌, slice_get, is_some, ◌^◌, IfSome, IfNone}
 use Rattle.std.specs.Ordering.{eq_by_cmp}
 use Rattle.std.specs.Option.{option_or}
 use Rattle.std.specs.FinMap.{get, insert, find, from_entries, get-from_entries, get-insert, same_map, from_entries_push}
-use Rattle.std.proofs.lemmas.Bool.{false≢true, cases_lt}
-use Rattle.std.proofs.lemmas.Bool.Decides.{nat_tests, Decides-eqb}
+use Rattle.std.proofs.lemmas.Bool.{false≢true}
+use Rattle.std.proofs.lemmas.Bool.Decides.{nat_tests}
+use Rattle.std.proofs.lemmas.Option.{slice_get_within}
+use Rattle.fd_base.proofs.Options.{cond_none_parts, cond_swapped, or_none_parts}
 use Rattle.elf_model.specs.declared.func.Func.{Func}
 use Rattle.func_desc.specs.Functions.{func_cmp, AddrMap, has_addr}
 use Rattle.func_desc.specs.Pool.{slot_addr}
-use Rattle.func_desc.specs.Inside.{slot_entries, addrs_of, IsKept}
-use Rattle.func_desc.proofs.Values.{func_total, one_func, tied_func, tied_self, some_none, has_addr-insert, has_addr-empty, unused, distinct-insert, find-append}
+use Rattle.func_desc.specs.parts.Inside.{slot_entries, addrs_of, IsKept}
+use Rattle.func_desc.proofs.Values.{func_total, one_func, tied_func, has_addr-insert, has_addr-empty, unused, distinct-insert, find-append}
 
 abbrev slot_found : ℕ → ℕ → List (Option Func) → Func → Option ℕ
 slot_found base k slots q = find func_cmp q (slot_entries base k slots)
@@ -35,15 +37,6 @@ pub one_holder : (m : AddrMap) (f : Func) (r : Option ℕ) → ((g h : Func) (b 
 one_holder m f None distinct e = tt
 one_holder m f (Some a) distinct e = λ g p. distinct g f a p e
 
-option_or_none : (a b : Option ℕ) → option_or a b ≡ None → (a ≡ None) × (b ≡ None)
-option_or_none None b e = (refl, e)
-option_or_none (Some x) b e = cc
-
-swapped : (s t : Bool) (x y : ℕ) (r : Option ℕ) → (s ≡ true → t ≡ true → ⊥) → cond s (Some x) (cond t (Some y) r) ≡ cond t (Some y) (cond s (Some x) r)
-swapped true true x y r apart = absurd (apart refl refl)
-swapped true false x y r apart = refl
-swapped false t x y r apart = refl
-
 -- a function gets an empty slot
 found-set : (base k : ℕ) (slots : List (Option Func)) (i : ℕ) (f q : Func) → slice_get slots i ≡ Some None → slot_found base k slots f ≡ None
     → slot_found base k (set slots i (Some f)) q ≡ cond (eq_by_cmp func_cmp q f) (Some (slot_addr base (k + i))) (slot_found base k slots q)
@@ -57,12 +50,12 @@ found-set base k (None ∷ slots) (suc i) f q empty none =
     ∙ ap (λ n. cond (eq_by_cmp func_cmp q f) (Some (slot_addr base n)) (slot_found base (k + 1) slots q)) at
 found-set base k (Some g ∷ slots) zero f q empty none = cc
 found-set base k (Some g ∷ slots) (suc i) f q empty none =
-    let other = some_none (eq_by_cmp func_cmp f g) (slot_addr base k) (slot_found base (k + 1) slots f) none in
+    let other = cond_none_parts (eq_by_cmp func_cmp f g) (slot_addr base k) (slot_found base (k + 1) slots f) none in
     let at : k + 1 + i ≡ k + suc i = omega arith in
     let rest = found-set base (k + 1) slots i f q empty other.1
     ∙ ap (λ n. cond (eq_by_cmp func_cmp q f) (Some (slot_addr base n)) (slot_found base (k + 1) slots q)) at in
     ap (cond (eq_by_cmp func_cmp q g) (Some (slot_addr base k))) rest
-    ∙ swapped (eq_by_cmp func_cmp q g) (eq_by_cmp func_cmp q f) (slot_addr base k) (slot_addr base (k + suc i)) (slot_found base (k + 1) slots q) (λ x y. apart x y other.0)
+    ∙ cond_swapped (eq_by_cmp func_cmp q g) (eq_by_cmp func_cmp q f) (Some (slot_addr base k)) (Some (slot_addr base (k + suc i))) (slot_found base (k + 1) slots q) (λ x y. apart x y other.0)
   where
     apart : eq_by_cmp func_cmp q g ≡ true → eq_by_cmp func_cmp q f ≡ true → eq_by_cmp func_cmp f g ≡ false → ⊥
     apart x y differ = false≢true (sym differ ∙ ap (λ h. eq_by_cmp func_cmp h g) (sym (tied_func q f y)) ∙ x)
@@ -74,7 +67,7 @@ or_cond false x r s = refl
 pub addrs_of-set : (base : ℕ) (slots : List (Option Func)) (adopted : List (Func × ℕ)) (i : ℕ) (f : Func) → slice_get slots i ≡ Some None → get (addrs_of base slots adopted) f ≡ None
     → addrs_of base (set slots i (Some f)) adopted ≡ insert (addrs_of base slots adopted) f (slot_addr base i)
 addrs_of-set base slots adopted i f empty none =
-    let apart = option_or_none (slot_found base 0 slots f) (find func_cmp f adopted) (sym (get-addrs_of base slots adopted f) ∙ none) in
+    let apart = or_none_parts (slot_found base 0 slots f) (find func_cmp f adopted) (sym (get-addrs_of base slots adopted f) ∙ none) in
     let at : 0 + i ≡ i = omega arith in
     same_map func_total one_func (addrs_of base (set slots i (Some f)) adopted) (insert (addrs_of base slots adopted) f (slot_addr base i)) (λ q.
     get-addrs_of base (set slots i (Some f)) adopted q
@@ -134,11 +127,6 @@ kept-set base slots adopted i f empty none kept =
 not_equal : (a b : ℕ) → a ≢ b → (a == b) ≡ false
 not_equal a b apart = grind (arith, nat_tests)
 
-within_at : (slots : List (Option Func)) (j : ℕ) (slot : Option Func) → slice_get slots j ≡ Some slot → j < length slots
-within_at [] j slot e = cc
-within_at (x ∷ slots) zero slot e = omega arith
-within_at (x ∷ slots) (suc j) slot e = omega (arith, within_at slots j slot e)
-
 pub kept-push : (base : ℕ) (slots : List (Option Func)) (adopted : List (Func × ℕ)) (f : Func) (a : ℕ) → get (addrs_of base slots adopted) f ≡ None
     → ((g : Func) → get (addrs_of base slots adopted) g ≢ Some a) → ((i : ℕ) → i < length slots → a ≢ slot_addr base i)
     → IsKept base slots adopted → IsKept base slots (adopted ++ (f, a) ∷ [])
@@ -148,7 +136,7 @@ kept-push base slots adopted f a none new elsewhere kept =
     record {
       end = kept.end;
       marked = λ j slot e. ap (λ n. has_addr n (slot_addr base j)) is ∙ has_addr-insert m f a (slot_addr base j) none
-          ∙ ap (λ b. b || has_addr m (slot_addr base j)) (not_equal a (slot_addr base j) (elsewhere j (within_at slots j slot e))) ∙ kept.marked j slot e;
+          ∙ ap (λ b. b || has_addr m (slot_addr base j)) (not_equal a (slot_addr base j) (elsewhere j (slice_get_within slots j slot e))) ∙ kept.marked j slot e;
       distinct = λ g h b p q. distinct-insert m f a (unused m a new) kept.distinct g h b (sym (ap (λ n. get n g) is) ∙ p) (sym (ap (λ n. get n h) is) ∙ q);
     }
 

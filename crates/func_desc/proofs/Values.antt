@@ -1,15 +1,16 @@
 -- Maps from functions to addresses, and the addresses that they have.
-use Rattle.std.proofs.Common.{◌≡◌, ◌≢◌, ℕ, zero, suc, ◌+◌, ◌<◌, ◌≤◌, ◌⊎◌, inl, inr, Bool, true, false, cond, ◌&&◌, ◌||◌, T, Option, Some, None, List, [], ◌∷◌, ◌++◌, length, map, refl, sym, ap, ◌∙◌, subst, arith, Ordering}
+use Rattle.std.proofs.Common.{◌≡◌, ◌≢◌, ℕ, ◌+◌, inl, inr, Bool, true, false, cond, ◌&&◌, ◌||◌, T, Some, None, List, [], ◌∷◌, ◌++◌, length, map, refl, sym, ap, ◌∙◌, arith, Ordering}
 use Rattle.std.specs.Prelude.{◌==◌}
 use Rattle.std.specs.declared.cmp.Ordering.TheVariants.{Less, Equal, Greater}
-use Rattle.std.specs.Ordering.{nat_cmp, is_eq, is_lt, eq_by_cmp, ordering_then, on}
+use Rattle.std.specs.Ordering.{nat_cmp, is_eq, is_lt, eq_by_cmp, ordering_then}
 use Rattle.std.specs.List.{list_any}
 use Rattle.std.specs.Option.{option_or}
 use Rattle.std.specs.Cmp.{IsTotalOrder, then_total, on_total, nat_cmp_total, tied_itself}
-use Rattle.std.specs.FinMap.{FinMap, IsAntisymmetric, nat_cmp-IsAntisymmetric, get, insert, empty, entries, entries_sorted, find, put, is_sorted, get-entries, entries-insert, get-insert, len, len-entries, len-empty, get-from_entries, from_entries}
+use Rattle.std.specs.FinMap.{IsAntisymmetric, nat_cmp-IsAntisymmetric, get, insert, empty, entries, entries_sorted, find, put, is_sorted, get-entries, entries-insert, get-insert, len-entries, len-empty}
 use Rattle.std.specs.FinMap.Entries.{by_order, below_all}
-use Rattle.std.proofs.lemmas.Bool.{false≢true}
-use Rattle.std.proofs.lemmas.Bool.Decides.{nat_tests, Decides-eqb}
+use Rattle.std.proofs.lemmas.Bool.{false≢true, or_cases, or_right}
+use Rattle.std.proofs.lemmas.Bool.Decides.{Decides-eqb}
+use Rattle.fd_base.proofs.Options.{cond_none_parts}
 use Rattle.elf_model.specs.declared.func.Func.{Func}
 use Rattle.func_desc.specs.Functions.{func_cmp, AddrMap, has_addr}
 
@@ -54,26 +55,10 @@ or_swap true false c = refl
 or_swap false true c = refl
 or_swap false false c = refl
 
-or_false : (b : Bool) → (b || false) ≡ b
-or_false true = refl
-or_false false = refl
-
-or_cases : (a b : Bool) → (a || b) ≡ true → (a ≡ true) ⊎ (b ≡ true)
-or_cases true b e = inl refl
-or_cases false b e = inr e
-
-or_right : (a b : Bool) → b ≡ true → (a || b) ≡ true
-or_right true b e = refl
-or_right false b e = e
-
-pub some_none : (b : Bool) (v : ℕ) (r : Option ℕ) → cond b (Some v) r ≡ None → (b ≡ false) × (r ≡ None)
-some_none true v r e = cc
-some_none false v r e = (refl, e)
-
 has-put : (k : Func) (v : ℕ) (es : List (Func × ℕ)) (a : ℕ) → find func_cmp k es ≡ None → has_value (put func_cmp k v es) a ≡ (v == a || has_value es a)
 has-put k v [] a none = refl
 has-put k v (e ∷ es) a none =
-    let other = some_none (eq_by_cmp func_cmp k e.0) e.1 (find func_cmp k es) none in
+    let other = cond_none_parts (eq_by_cmp func_cmp k e.0) e.1 (find func_cmp k es) none in
     elim (func_cmp k e.0) as (λ o. func_cmp k e.0 ≡ o → has_value (by_order o ((k, v) ∷ e ∷ es) ((e.0, v) ∷ es) (e ∷ put func_cmp k v es)) a ≡ (v == a || (e.1 == a || has_value es a))) [
       | Less ↦ λ o. refl
       | Equal ↦ λ o. absurd (false≢true (sym other.0 ∙ ap is_eq o))

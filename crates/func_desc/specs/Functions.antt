@@ -1,5 +1,5 @@
 -- Functions in order, and finite maps from functions to addresses.
-use Rattle.std.specs.Prelude.{◌≡◌, ℕ, Bool, List, ◌==◌, refl}
+use Rattle.std.specs.Prelude.{ℕ, Bool, ◌==◌, refl}
 use Rattle.std.specs.declared.cmp.Ordering.{Ordering}
 use Rattle.std.specs.Ordering.{nat_cmp, on, then_cmp}
 use Rattle.std.specs.List.{list_any}

@@ -1,4 +1,3 @@
 pub mod Functions
-pub mod Inside
-pub mod Laws
 pub mod Pool
+pub mod parts

@@ -25,7 +25,7 @@ pub struct DescPool {
 impl Model for DescPool {
     ghost use Rattle.std.specs.Prelude.{◌-◌, length, vec_len, vec_capacity};
     ghost use Rattle.func_desc.specs.Pool.{Pool, pool_code};
-    ghost use Rattle.func_desc.specs.Inside.{addrs_of, IsKept};
+    ghost use Rattle.func_desc.specs.parts.Inside.{addrs_of, IsKept};
 
     ghost Value = { Pool };
 

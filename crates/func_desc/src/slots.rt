@@ -6,7 +6,7 @@ ghost use Rattle.std.specs.Ordering.{eq_by_cmp};
 ghost use Rattle.std.specs.FinMap.{find};
 ghost use Rattle.func_desc.specs.Functions.{func_cmp};
 ghost use Rattle.func_desc.specs.Pool.{slot_addr};
-ghost use Rattle.func_desc.specs.Inside.{slot_entries, free_from};
+ghost use Rattle.func_desc.specs.parts.Inside.{slot_entries, free_from};
 
 use elf_model::Func;
 use fd_base::Memory;

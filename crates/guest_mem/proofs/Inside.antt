@@ -4,8 +4,11 @@ use Rattle.std.specs.Prelude.{not}
 use Rattle.std.proofs.lemmas.List.{get_or_past}
 use Rattle.std.proofs.lemmas.Bool.{cases_lt}
 use Rattle.guest_mem.specs.declared.kind.MemKind.{MemKind}
-use Rattle.guest_mem.specs.Memory.{is_mapped_as}
+use Rattle.guest_mem.specs.declared.search.Asked.{Asked}
+use Rattle.guest_mem.specs.declared.search.Asked.TheVariants as asks
+use Rattle.guest_mem.specs.Memory.{is_code_as, is_mapped_as}
 use Rattle.guest_mem.specs.Accesses.{first_from}
+use Rattle.guest_mem.specs.parts.Answered.{is_asked}
 
 -- a test that holds of no byte that isn't mapped
 module _ (allowed : Option MemKind → Bool) (none : allowed None ≡ false) (kinds : List (Option MemKind)) where
@@ -25,3 +28,8 @@ module _ (allowed : Option MemKind → Bool) (none : allowed None ≡ false) (ki
 
 pub mapped_inside : (kinds : List (Option MemKind)) (a count : ℕ) → first_from (λ k. not (is_mapped_as (get_or kinds k None))) a count ≡ None → 0 < count → a + count ≤ length kinds
 mapped_inside kinds a count h p = inside is_mapped_as refl kinds a count h p
+
+-- an access each of whose bytes is as asked
+pub asked_inside : (asked : Asked) (kinds : List (Option MemKind)) (a count : ℕ) → first_from (λ k. not (is_asked asked (get_or kinds k None))) a count ≡ None → 0 < count → a + count ≤ length kinds
+asked_inside asks.Mapped kinds a count h p = mapped_inside kinds a count h p
+asked_inside asks.Code kinds a count h p = inside is_code_as refl kinds a count h p

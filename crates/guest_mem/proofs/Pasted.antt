@@ -90,7 +90,7 @@ little_number-pasted n v xs a l h =
 
 -- ---- sizes of bytes
 
-set-fits : (xs : List ℕ) (i v n : ℕ) → ((j : ℕ) → get_or xs j 0 < n) → v < n → (k : ℕ) → get_or (set xs i v) k 0 < n
+pub set-fits : (xs : List ℕ) (i v n : ℕ) → ((j : ℕ) → get_or xs j 0 < n) → v < n → (k : ℕ) → get_or (set xs i v) k 0 < n
 set-fits [] i v n h l k = h k
 set-fits (x ∷ xs) zero v n h l zero = l
 set-fits (x ∷ xs) zero v n h l (suc k) = h (suc k)

@@ -2,12 +2,12 @@
 use Rattle.std.proofs.Common.{◌≡◌, ◌⊎◌, inl, inr, ℕ, ◌+◌, ◌<◌, ◌≤◌, true, false, Option, Some, None, length, refl, ap, ◌∙◌, arith}
 use Rattle.guest_mem.specs.declared.kind.MemKind.{MemKind}
 use Rattle.guest_mem.specs.declared.kind.MemKind.TheVariants.{Data}
-use Rattle.guest_mem.specs.Memory.{Memory, IsMemory, HaveKind, kind_at, is_marked, is_watched, is_watched_as}
+use Rattle.guest_mem.specs.Memory.{GuestMemory, IsMemory, HaveKind, kind_at, is_marked, is_watched, is_watched_as}
 use Rattle.guest_mem.specs.Ranges.{with_kind, with_marks}
-use Rattle.guest_mem.specs.Kept.{Agree}
+use Rattle.guest_mem.specs.parts.Kept.{Agree}
 use Rattle.guest_mem.proofs.Pasted.{length-filled, get_or-filled_other, get_or-filled_there}
 
-module _ (m : Memory) (start len : ℕ) (kind : Option MemKind) where
+module _ (m : GuestMemory) (start len : ℕ) (kind : Option MemKind) where
   pub kind_at-with_kind_there : (a : ℕ) → start + len ≤ length m.kinds → start ≤ a → a < start + len → kind_at (with_kind m start len kind) a ≡ kind
   kind_at-with_kind_there a h l l' = get_or-filled_there m.kinds start len a kind None h l l'
 
@@ -45,7 +45,7 @@ module _ (m : Memory) (start len : ℕ) (kind : Option MemKind) where
   with_kind-agree a count (inl before) = record { bytes = λ i l. refl; kinds = λ i l. kind_at-with_kind_other (a + i) (inl (omega arith)) }
   with_kind-agree a count (inr after) = record { bytes = λ i l. refl; kinds = λ i l. kind_at-with_kind_other (a + i) (inr (omega arith)) }
 
-module _ (m : Memory) (start len : ℕ) where
+module _ (m : GuestMemory) (start len : ℕ) where
   pub is_watched-with_marks_there : (a : ℕ) → start + len ≤ length m.marks → HaveKind m start len (Some Data) → start ≤ a → a < start + len → is_watched (with_marks m start len) a ≡ true
   is_watched-with_marks_there a h kinds l l' =
       ap (λ (k : Option MemKind). is_watched_as k (is_marked (with_marks m start len) a)) (kinds a l l')

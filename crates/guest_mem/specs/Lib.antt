@@ -1,5 +1,4 @@
 pub mod Memory
 pub mod Accesses
 pub mod Ranges
-pub mod View
-pub mod Kept
+pub mod parts

@@ -1,14 +1,15 @@
 //! The memory and its accesses.
 
-ghost use Rattle.std.specs.Prelude.{◌≡◌, ℕ, ◌+◌, ◌*◌, ◌<◌, ◌≤◌, ◌^◌, IfOk, OnOk, MatchResult, replicate, Some, None, Ok, Err, false, [], ◌∷◌, length};
-ghost use Rattle.guest_mem.specs.Memory.{IsMemory, IsBytes, HaveKind, AreMapped, byte_at, is_mapped_as, is_code_as};
+ghost use Rattle.std.specs.Prelude.{◌≡◌, ℕ, ◌+◌, ◌*◌, ◌<◌, ◌≤◌, ◌^◌, IfOk, OnOk, Some, None, [], ◌∷◌, length};
+ghost use Rattle.guest_mem.specs.Memory.{IsMemory, IsBytes, HaveKind, AreMapped, blank, byte_at};
 ghost use Rattle.guest_mem.specs.Accesses.{with_bytes, read_refusal, write_refusal, read8_of, read16_of, read32_of, fetch_of, read_words_of, write_of, write8_of, write16_of, write32_of, write_words_of};
+ghost use Rattle.guest_mem.specs.parts.Answered.{IsRefused, IsWritten, is_asked};
 ghost use Rattle.guest_mem.specs.Ranges.{with_kind, with_marks};
 ghost use Rattle.guest_mem.specs.declared.kind.MemKind.TheVariants.{Data};
 
 use crate::bytes::{are_bytes, byte_len, fill, get_words, paste, put_words};
 use crate::kind::{Access, MemKind};
-use crate::search::{first_not_code, first_unmapped, first_watched};
+use crate::search::{Asked, first_outside, first_watched};
 use fd_base::{Memory, half_in, word_in};
 use std::alloc::Global;
 use std::marker::Model;
@@ -23,11 +24,11 @@ pub struct Guest {
 }
 
 impl Model for Guest {
-    ghost use Rattle.guest_mem.specs.Memory.{Memory};
+    ghost use Rattle.guest_mem.specs.Memory.{GuestMemory};
 
-    ghost Value = { Memory };
+    ghost Value = { GuestMemory };
 
-    ghost use Rattle.guest_mem.specs.View.{memory_of, IsGuest};
+    ghost use Rattle.guest_mem.specs.parts.View.{memory_of, IsGuest};
 
     ghost view = { memory_of };
 
@@ -37,7 +38,7 @@ impl Model for Guest {
 impl Guest {
     /// A memory of `size` bytes: all are zero, nothing is mapped and nothing is watched.
     pub fn new(alloc: Global, size: u32) -> Result<Guest, Memory>
-        ensures { IfOk result (λ guest. guest ≡ record { bytes = replicate size 0; kinds = replicate size None; marks = replicate size false }) }
+        ensures { IfOk result (λ guest. guest ≡ blank size) }
     {
         let len = size as usize;
         let bytes = vec![in alloc; 0u8; len]?;
@@ -115,7 +116,7 @@ impl Guest {
     pub fn read8(&self, addr: u32) -> Result<u8, Access>
         ensures { result ≡ read8_of self.now addr }
     {
-        self.check_read(1, addr, 1)?;
+        self.check(Asked::Mapped, 1, addr, 1)?;
         Ok(self.bytes[addr as usize])
     }
 
@@ -125,7 +126,7 @@ impl Guest {
     pub fn read16(&self, addr: u32) -> Result<u16, Access>
         ensures { result ≡ read16_of self.now addr }
     {
-        self.check_read(2, addr, 2)?;
+        self.check(Asked::Mapped, 2, addr, 2)?;
         Ok(half_in(&self.bytes, addr as usize))
     }
 
@@ -135,7 +136,7 @@ impl Guest {
     pub fn read32(&self, addr: u32) -> Result<u32, Access>
         ensures { result ≡ read32_of self.now addr }
     {
-        self.check_read(4, addr, 4)?;
+        self.check(Asked::Mapped, 4, addr, 4)?;
         Ok(word_in(&self.bytes, addr as usize))
     }
 
@@ -145,7 +146,7 @@ impl Guest {
     pub fn fetch(&self, addr: u32) -> Result<u32, Access>
         ensures { result ≡ fetch_of self.now addr }
     {
-        self.check_fetch(addr)?;
+        self.check(Asked::Code, 4, addr, 4)?;
         Ok(word_in(&self.bytes, addr as usize))
     }
 
@@ -154,9 +155,9 @@ impl Guest {
     pub fn read_words(&self, addr: u32, values: &mut [u32]) -> Result<(), Access>
         requires some { 0 < length values.old }
         requires few { 4 * length values.old < 2 ^ 32 }
-        ensures { MatchResult result (λ _. read_words_of self.now addr (length values.old) ≡ Ok values.new) (λ e. (read_words_of self.now addr (length values.old) ≡ Err e) × (values.new ≡ values.old)) }
+        ensures { IsWritten result (read_words_of self.now addr (length values.old)) values.old values.new }
     {
-        self.check_read(4, addr, 4 * values.len() as u32)?;
+        self.check(Asked::Mapped, 4, addr, 4 * values.len() as u32)?;
         get_words(&self.bytes, addr as usize, values);
         Ok(())
     }
@@ -164,7 +165,7 @@ impl Guest {
     /// Writes a byte. Refused by `Fault` or `Stray`, and nothing changes then.
     #[inline]
     pub fn write8(&mut self, addr: u32, v: u8) -> Result<(), Access>
-        ensures { MatchResult result (λ _. write8_of self.old addr v ≡ Ok self.new) (λ e. (write8_of self.old addr v ≡ Err e) × (self.new ≡ self.old)) }
+        ensures { IsWritten result (write8_of self.old addr v) self.old self.new }
     {
         self.write(1, addr, &v.to_le_bytes())
     }
@@ -172,7 +173,7 @@ impl Guest {
     /// Writes a halfword. Refused by `Unaligned`, `Fault` or `Stray`, and nothing changes then.
     #[inline]
     pub fn write16(&mut self, addr: u32, v: u16) -> Result<(), Access>
-        ensures { MatchResult result (λ _. write16_of self.old addr v ≡ Ok self.new) (λ e. (write16_of self.old addr v ≡ Err e) × (self.new ≡ self.old)) }
+        ensures { IsWritten result (write16_of self.old addr v) self.old self.new }
     {
         self.write(2, addr, &v.to_le_bytes())
     }
@@ -180,7 +181,7 @@ impl Guest {
     /// Writes a word. Refused by `Unaligned`, `Fault` or `Stray`, and nothing changes then.
     #[inline]
     pub fn write32(&mut self, addr: u32, v: u32) -> Result<(), Access>
-        ensures { MatchResult result (λ _. write32_of self.old addr v ≡ Ok self.new) (λ e. (write32_of self.old addr v ≡ Err e) × (self.new ≡ self.old)) }
+        ensures { IsWritten result (write32_of self.old addr v) self.old self.new }
     {
         self.write(4, addr, &v.to_le_bytes())
     }
@@ -191,7 +192,7 @@ impl Guest {
     pub fn write_words(&mut self, addr: u32, values: &[u32]) -> Result<(), Access>
         requires some { 0 < length values.now }
         requires few { 4 * length values.now < 2 ^ 32 }
-        ensures { MatchResult result (λ _. write_words_of self.old addr values.now ≡ Ok self.new) (λ e. (write_words_of self.old addr values.now ≡ Err e) × (self.new ≡ self.old)) }
+        ensures { IsWritten result (write_words_of self.old addr values.now) self.old self.new }
     {
         self.check_write(4, addr, byte_len(values))?;
         put_words(&mut self.bytes, addr as usize, values);
@@ -204,7 +205,7 @@ impl Guest {
         requires width { 0 < width }
         requires some { 0 < length new.now }
         requires few { length new.now < 2 ^ 32 }
-        ensures { MatchResult result (λ _. write_of width self.old addr new.now ≡ Ok self.new) (λ e. (write_of width self.old addr new.now ≡ Err e) × (self.new ≡ self.old)) }
+        ensures { IsWritten result (write_of width self.old addr new.now) self.old self.new }
     {
         self.check_write(width, addr, new.len() as u32)?;
         paste(&mut self.bytes, addr as usize, new);
@@ -213,31 +214,16 @@ impl Guest {
 
     #[inline]
     #[tactic(auto, unfolding(crate::specs::Accesses::read_refusal))]
-    fn check_read(&self, width: u32, addr: u32, count: u32) -> Result<(), Access>
+    fn check(&self, asked: Asked, width: u32, addr: u32, count: u32) -> Result<(), Access>
         requires width { 0 < width }
         requires some { 0 < count }
-        ensures refusal { MatchResult result (λ _. read_refusal is_mapped_as width count self.now addr ≡ None) (λ e. read_refusal is_mapped_as width count self.now addr ≡ Some e) }
+        ensures refusal { IsRefused result (read_refusal (is_asked asked) width count self.now addr) }
         ensures inside { OnOk result (addr + count ≤ length self.now.bytes) }
     {
         if addr % width != 0 {
             return Err(Access::Unaligned(addr));
         }
-        match first_unmapped(&self.kinds, addr, count) {
-            Some(at) => Err(Access::Fault(at)),
-            None => Ok(()),
-        }
-    }
-
-    #[inline]
-    #[tactic(auto, unfolding(crate::specs::Accesses::read_refusal))]
-    fn check_fetch(&self, addr: u32) -> Result<(), Access>
-        ensures refusal { MatchResult result (λ _. read_refusal is_code_as 4 4 self.now addr ≡ None) (λ e. read_refusal is_code_as 4 4 self.now addr ≡ Some e) }
-        ensures inside { OnOk result (addr + 4 ≤ length self.now.bytes) }
-    {
-        if addr % 4 != 0 {
-            return Err(Access::Unaligned(addr));
-        }
-        match first_not_code(&self.kinds, addr, 4) {
+        match first_outside(&self.kinds, asked, addr, count) {
             Some(at) => Err(Access::Fault(at)),
             None => Ok(()),
         }
@@ -248,10 +234,10 @@ impl Guest {
     fn check_write(&self, width: u32, addr: u32, count: u32) -> Result<(), Access>
         requires width { 0 < width }
         requires some { 0 < count }
-        ensures refusal { MatchResult result (λ _. write_refusal width count self.now addr ≡ None) (λ e. write_refusal width count self.now addr ≡ Some e) }
+        ensures refusal { IsRefused result (write_refusal width count self.now addr) }
         ensures inside { OnOk result (addr + count ≤ length self.now.bytes) }
     {
-        self.check_read(width, addr, count)?;
+        self.check(Asked::Mapped, width, addr, count)?;
         match first_watched(&self.kinds, &self.marks, addr, count) {
             Some(at) => Err(Access::Stray(at)),
             None => Ok(()),

@@ -4,8 +4,18 @@ ghost use Rattle.std.specs.Prelude.{◌≡◌, ◌+◌, ◌<◌, ◌≤◌, ◌^
 ghost use Rattle.guest_mem.specs.declared.kind.MemKind.{MemKind};
 ghost use Rattle.guest_mem.specs.Memory.{is_mapped_as, is_code_as, is_watched_as};
 ghost use Rattle.guest_mem.specs.Accesses.{first_from};
+ghost use Rattle.guest_mem.specs.parts.Answered.{is_asked};
 
 use crate::kind::MemKind;
+
+/// What an access asks of each of its bytes.
+#[derive(Clone, Copy)]
+pub enum Asked {
+    /// It is mapped.
+    Mapped,
+    /// It is Code.
+    Code,
+}
 
 fn is_mapped(kinds: &[Option<MemKind>], at: u32) -> bool
     ensures value { result ≡ is_mapped_as (get_or kinds.now at None) }
@@ -35,33 +45,26 @@ fn is_watched(kinds: &[Option<MemKind>], marks: &[bool], at: u32) -> bool
     }
 }
 
-/// The lowest of `count` bytes that isn't mapped.
-#[inline]
-#[tactic(auto, using(crate::proofs::Searches::searches))]
-pub fn first_unmapped(kinds: &[Option<MemKind>], addr: u32, count: u32) -> Option<u32>
-    requires { length kinds.now < 2 ^ 32 }
-    ensures { result ≡ first_from (λ a. not (is_mapped_as (get_or kinds.now a None))) addr count }
+fn is_asked(kinds: &[Option<MemKind>], asked: Asked, at: u32) -> bool
+    ensures value { result ≡ is_asked asked (get_or kinds.now at None) }
+    ensures inside { IsTrue result → at < length kinds.now }
 {
-    let mut at = addr;
-    for _ in 0..count {
-        if !is_mapped(kinds, at) {
-            return Some(at);
-        }
-        at += 1;
+    match asked {
+        Asked::Mapped => is_mapped(kinds, at),
+        Asked::Code => is_code(kinds, at),
     }
-    None
 }
 
-/// The lowest of `count` bytes that isn't Code.
+/// The lowest of `count` bytes that isn't as asked.
 #[inline]
 #[tactic(auto, using(crate::proofs::Searches::searches))]
-pub fn first_not_code(kinds: &[Option<MemKind>], addr: u32, count: u32) -> Option<u32>
+pub fn first_outside(kinds: &[Option<MemKind>], asked: Asked, addr: u32, count: u32) -> Option<u32>
     requires { length kinds.now < 2 ^ 32 }
-    ensures { result ≡ first_from (λ a. not (is_code_as (get_or kinds.now a None))) addr count }
+    ensures { result ≡ first_from (λ a. not (is_asked asked (get_or kinds.now a None))) addr count }
 {
     let mut at = addr;
     for _ in 0..count {
-        if !is_code(kinds, at) {
+        if !is_asked(kinds, asked, at) {
             return Some(at);
         }
         at += 1;

@@ -3,7 +3,7 @@ use Rattle.std.proofs.Common.{◌≡◌, ℕ, ◌+◌, ◌<◌, zero, suc, Bool,
 use Rattle.std.specs.Prelude.{drop, option_map, if◌then◌else◌}
 use Rattle.std.specs.Option.{option_or}
 use Rattle.std.specs.Result.{result_map_both}
-use Rattle.proc_run.specs.declared.job.Job.{Job}
+use Rattle.run_model.specs.declared.job.Job.{Job}
 use Rattle.job_text.specs.declared.limits.Limits.{Limits}
 use Rattle.job_text.specs.declared.refusal.JobKind.{JobKind}
 use Rattle.job_text.specs.declared.refusal.JobKind.TheVariants.{First}
@@ -11,8 +11,8 @@ use Rattle.job_text.specs.declared.refusal.JobRefusal.{JobRefusal}
 use Rattle.job_text.specs.Statement.{statement_of}
 use Rattle.job_text.specs.Given.{job_by}
 use Rattle.job_text.specs.Job.{is_headed, given_behind, refusal_by, refused_at, first_refusal, unless, job_behind, job_of}
-use Rattle.job_text.specs.Refused.{RefusedWhere}
-use Rattle.job_text.specs.Refused.RefusedWhere.{first_line, other_line, behind_all}
+use Rattle.job_text.specs.parts.Refused.{RefusedWhere}
+use Rattle.job_text.specs.parts.Refused.RefusedWhere.{first_line, other_line, behind_all}
 
 -- what refuses line k of these, with more lines before them
 abbrev at : Limits → List (List ℕ) → List (List ℕ) → ℕ → Option JobKind

@@ -7,8 +7,8 @@ use Rattle.load_model.specs.declared.plan.MemPlan.{MemPlan}
 use Rattle.load_model.specs.declared.plan.PlaceLine.{PlaceLine}
 use Rattle.load_model.specs.declared.plan.TheConstants.{THREADS}
 use Rattle.load_model.specs.Plan.{low_of, high_of}
-use Rattle.proc_run.specs.declared.job.Job.{Job}
-use Rattle.proc_run.specs.declared.job.Turn.{Turn}
+use Rattle.run_model.specs.declared.job.Job.{Job}
+use Rattle.run_model.specs.declared.job.Turn.{Turn}
 use Rattle.job_text.specs.declared.given.Given.{Given}
 use Rattle.job_text.specs.declared.limits.Limits.{Limits}
 use Rattle.job_text.specs.declared.refusal.JobKind.{JobKind}

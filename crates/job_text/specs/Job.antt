@@ -5,7 +5,7 @@ use Rattle.std.specs.List.{filter_map}
 use Rattle.std.specs.Result.{result_map_both}
 use Rattle.std.specs.Str.{bytes_eq}
 use Rattle.fd_base.specs.Lines.{lines_of}
-use Rattle.proc_run.specs.declared.job.Job.{Job}
+use Rattle.run_model.specs.declared.job.Job.{Job}
 use Rattle.job_text.specs.declared.given.Given.{Given}
 use Rattle.job_text.specs.declared.limits.Limits.{Limits}
 use Rattle.job_text.specs.Format.{first_format}
@@ -51,6 +51,10 @@ refusal_by limits given (Err kind) = Some kind
 refusal_by limits given (Ok None) = None
 refusal_by limits given (Ok (Some statement)) = repeat_refusal limits given statement
 
+-- what refuses a line, where that is given by the lines before it
+abbrev pub line_refusal : Limits → Given → List ℕ → Option JobKind
+line_refusal limits given line = refusal_by limits given (statement_of limits line)
+
 -- the refusal of this kind at the line with this number
 abbrev pub refused_at : ℕ → JobKind → JobRefusal
 refused_at line kind = record { line = line; kind = kind }
@@ -59,7 +63,7 @@ refused_at line kind = record { line = line; kind = kind }
 abbrev pub first_refusal : Limits → List (List ℕ) → List (List ℕ) → Option JobRefusal
 first_refusal limits before [] = None
 first_refusal limits before (line ∷ lines) =
-    option_or (option_map (refused_at (length before + 2)) (refusal_by limits (given_behind limits before) (statement_of limits line)))
+    option_or (option_map (refused_at (length before + 2)) (line_refusal limits (given_behind limits before) line))
     (first_refusal limits (before ++ line ∷ []) lines)
 
 -- what is given with one more line

@@ -1,10 +1,7 @@
-pub mod Kinds
-pub mod Limits
-pub mod Answers
 pub mod Fields
 pub mod Format
-pub mod Statement
 pub mod Given
 pub mod Job
-pub mod Refused
-pub mod Sound
+pub mod Limits
+pub mod Statement
+pub mod parts

@@ -5,7 +5,7 @@ use Rattle.std.specs.Str.{bytes_eq}
 use Rattle.fd_base.specs.Texts.{number_of}
 use Rattle.fd_base.specs.Name.{name_refusal_of}
 use Rattle.load_model.specs.declared.plan.PlaceLine.{PlaceLine}
-use Rattle.proc_run.specs.declared.job.Turn.{Turn}
+use Rattle.run_model.specs.declared.job.Turn.{Turn}
 use Rattle.job_text.specs.declared.limits.Bounds.{Bounds}
 use Rattle.job_text.specs.declared.limits.Limits.{Limits}
 use Rattle.job_text.specs.declared.refusal.JobKind.{JobKind}

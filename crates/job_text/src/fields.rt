@@ -36,9 +36,10 @@ impl<'a> Fields<'a> {
     }
 
     /// The next field. None exactly where none is left.
-    #[tactic(auto, using(crate::proofs::Parting::no_fields))]
+    #[tactic(auto, using(crate::proofs::LineFields::no_fields))]
     pub(crate) fn next(&mut self) -> Option<&'a [u8]>
-        ensures { MatchOption result ((self.old ≡ []) × (self.new ≡ [])) (λ field. self.old ≡ field.now ∷ self.new) }
+        ensures { MatchOption result ((self.old ≡ []) × (self.new ≡ []))
+            (λ field. self.old ≡ field.now ∷ self.new) }
     {
         let rest = behind_spaces(self.rest);
         self.rest = rest;

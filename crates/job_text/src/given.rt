@@ -3,7 +3,7 @@
 ghost use Rattle.std.specs.Prelude.{◌≡◌, ◌++◌, ◌∷◌, [], OnOk, IfErr};
 ghost use Rattle.std.specs.List.{list_any};
 ghost use Rattle.std.specs.Str.{bytes_eq};
-ghost use Rattle.job_text.specs.Answers.{IsOf};
+ghost use Rattle.job_text.specs.parts.Answers.{IsOf};
 ghost use Rattle.job_text.specs.Given as spec;
 
 use crate::limits::Limits;
@@ -11,7 +11,7 @@ use crate::refusal::{JobKind, LineErr};
 use crate::statement::Statement;
 use fd_base::{Name, Seq};
 use load_model::{DESCRIPTOR_SIZE, DESCRIPTORS, MemPlan, PlaceLine, Places, THREADS};
-use proc_run::{Job, Turn, Turns};
+use run_model::{Job, Turn, Turns};
 use std::alloc::Global;
 
 /// What statements give: the value of each kind that may be set once, and the place lines and turns.
@@ -115,7 +115,8 @@ impl Given {
     pub(crate) fn add(&mut self, limits: &Limits, statement: Statement) -> Result<(), LineErr>
         ensures added { OnOk result (self.new ≡ spec.with_statement statement self.old) }
         ensures free { OnOk result (spec.repeat_refusal limits.now self.old statement ≡ None) }
-        ensures refused { IfErr result (λ e. IsOf e (spec.repeat_refusal limits.now self.old statement)) }
+        ensures refused { IfErr result
+            (λ e. IsOf e (spec.repeat_refusal limits.now self.old statement)) }
     {
         match statement {
             Statement::Program(name) => set_once(&mut self.program, name),

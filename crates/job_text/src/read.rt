@@ -2,15 +2,15 @@
 
 ghost use Rattle.std.specs.Prelude.{◌≡◌, ◌+◌, ◌-◌, ◌^◌, ◌<◌, ◌++◌, [], ◌∷◌, List, ℕ, length, drop, true, false, OnOk, IfErr, IfOk, MatchOption, None};
 ghost use Rattle.load_model.specs.Plan.{Fits};
-ghost use Rattle.proc_run.specs.declared.job.Job.{Job};
+ghost use Rattle.run_model.specs.declared.job.Job.{Job};
 ghost use Rattle.job_text.specs.Format.{first_format};
 ghost use Rattle.job_text.specs.declared.refusal.JobRefusal.{JobRefusal};
 ghost use Rattle.job_text.specs.declared.refusal.JobErr.TheVariants.{Refused};
-ghost use Rattle.job_text.specs.Answers.{IsOf, IsRefusal, Answers, IsAnswer};
+ghost use Rattle.job_text.specs.parts.Answers.{AreBehindFirst, IsOf, IsRefusal, Answers, IsAnswer};
 ghost use Rattle.job_text.specs.Fields.{fields_of};
 ghost use Rattle.job_text.specs.Statement.{statement_of};
 ghost use Rattle.job_text.specs.Job as spec;
-ghost use Rattle.job_text.specs.Sound.{IsSound};
+ghost use Rattle.job_text.specs.parts.Sound.{IsSound};
 ghost use Rattle.fd_base.specs.Lines.{lines_of};
 
 use crate::fields::Fields;
@@ -19,7 +19,7 @@ use crate::limits::{FORMAT_1, Limits};
 use crate::refusal::{JobErr, JobKind, JobRefusal, LineErr};
 use crate::statement::statement_of;
 use fd_base::Lines;
-use proc_run::Job;
+use run_model::Job;
 use std::alloc::Global;
 
 /// The refusal of this kind at the line with this number.
@@ -47,8 +47,7 @@ fn is_header(line: &[u8]) -> bool
 fn lines_behind<'a>(bytes: &'a [u8]) -> Option<Lines<'a>>
     requires { length bytes.now < 2 ^ 32 - 1 }
     ensures { MatchOption result (spec.is_headed (lines_of bytes.now) ≡ false)
-        (λ lines. (spec.is_headed (lines_of bytes.now) ≡ true)
-        × ((lines.before ≡ 1) × ((lines.left ≡ drop 1 (lines_of bytes.now)) × (length lines.left + 2 < 2 ^ 32)))) }
+        (AreBehindFirst (lines_of bytes.now)) }
 {
     let mut lines = Lines::new(bytes);
     match lines.next() {
@@ -59,9 +58,10 @@ fn lines_behind<'a>(bytes: &'a [u8]) -> Option<Lines<'a>>
 
 /// Takes what one more line gives.
 fn take_line(alloc: Global, limits: &Limits, line: &[u8], given: &mut Given) -> Result<(), LineErr>
-    ensures taken { OnOk result (given.new ≡ spec.given_with (statement_of limits.now line.now) given.old) }
-    ensures free { OnOk result (spec.refusal_by limits.now given.old (statement_of limits.now line.now) ≡ None) }
-    ensures refused { IfErr result (λ e. IsOf e (spec.refusal_by limits.now given.old (statement_of limits.now line.now))) }
+    ensures taken { OnOk result
+        (given.new ≡ spec.given_with (statement_of limits.now line.now) given.old) }
+    ensures free { OnOk result (spec.line_refusal limits.now given.old line.now ≡ None) }
+    ensures refused { IfErr result (λ e. IsOf e (spec.line_refusal limits.now given.old line.now)) }
 {
     match statement_of(alloc, limits, line)? {
         Some(statement) => given.add(limits, statement),
@@ -70,7 +70,7 @@ fn take_line(alloc: Global, limits: &Limits, line: &[u8], given: &mut Given) -> 
 }
 
 /// Takes what the lines behind the first one give. Answers the number of the last line.
-#[tactic(auto, using(crate::proofs::Collecting::taking))]
+#[tactic(auto, using(crate::proofs::JobLines::taking))]
 fn take_lines(
     alloc: Global,
     limits: &Limits,
@@ -82,7 +82,8 @@ fn take_lines(
     ensures taken { OnOk result (given.new ≡ spec.given_behind limits.now lines.entry.left) }
     ensures last { IfOk result (λ last. last ≡ length lines.entry.left + 1) }
     ensures free { OnOk result (spec.first_refusal limits.now [] lines.entry.left ≡ None) }
-    ensures refused { IfErr result (λ e. IsRefusal e (spec.first_refusal limits.now [] lines.entry.left)) }
+    ensures refused { IfErr result
+        (λ e. IsRefusal e (spec.first_refusal limits.now [] lines.entry.left)) }
 {
     let mut last = 1;
     while let Some(line) = lines.next() {
@@ -96,7 +97,7 @@ fn take_lines(
 }
 
 /// The job of a text in a format.
-#[tactic(auto, using(crate::proofs::Composing::composing))]
+#[tactic(auto, using(crate::proofs::JobParts::composing))]
 fn job(alloc: Global, limits: &Limits, bytes: &[u8]) -> Result<Job, JobErr>
     requires { length bytes.now < 2 ^ 32 - 1 }
     ensures { Answers result (spec.job_of limits.now (lines_of bytes.now)) }
@@ -123,7 +124,8 @@ pub fn read_job(alloc: Global, bytes: &[u8]) -> Result<Job, JobErr>
 
     // Both answers are the only ones, unless memory is wanted.
     ensures only { (job : Job) → spec.IsJob bytes.now job → IsAnswer result (Ok job) }
-    ensures first { (r : JobRefusal) → spec.IsRefused bytes.now r → IsAnswer result (Err (Refused r)) }
+    ensures first { (r : JobRefusal) →
+        spec.IsRefused bytes.now r → IsAnswer result (Err (Refused r)) }
 
     // What callers need of a job: the plan fits, and everything lies within the limits.
     ensures fits { IfOk result (λ job. Fits job.plan) }

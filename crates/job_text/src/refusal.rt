@@ -52,7 +52,7 @@ pub(crate) enum LineErr {
 
 impl LineErr {
     ghost use Rattle.std.specs.Prelude.{◌≡◌};
-    ghost use Rattle.job_text.specs.Answers.{err_at};
+    ghost use Rattle.job_text.specs.parts.Answers.{err_at};
 
     /// The same of the line with this number.
     pub(crate) fn at(self, line: u32) -> JobErr

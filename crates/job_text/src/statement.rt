@@ -2,7 +2,7 @@
 
 ghost use Rattle.std.specs.Prelude.{◌≡◌};
 ghost use Rattle.std.specs.Option.{option_copied};
-ghost use Rattle.job_text.specs.Answers.{Says};
+ghost use Rattle.job_text.specs.parts.Answers.{Says};
 ghost use Rattle.job_text.specs.Statement as spec;
 
 use crate::fields::Fields;
@@ -10,7 +10,7 @@ use crate::limits::{Bounds, Limits};
 use crate::refusal::{JobKind, LineErr};
 use fd_base::{Name, NameErr, Seq, Words, number};
 use load_model::PlaceLine;
-use proc_run::Turn;
+use run_model::Turn;
 use std::alloc::Global;
 
 /// The word that a line begins with.
@@ -163,7 +163,7 @@ fn mode(fields: &mut Fields) -> Result<bool, LineErr>
 }
 
 /// The addresses of the fields, of which there are 1 to `most`.
-#[tactic(auto, using(crate::proofs::Addressing::gathering))]
+#[tactic(auto, using(crate::proofs::AddressFields::gathering))]
 fn addresses(alloc: Global, most: u32, fields: &mut Fields) -> Result<Words, LineErr>
     ensures { Says result (spec.addresses_of most fields.old) }
 {
@@ -213,7 +213,7 @@ fn turn(threads: &Bounds, counts: &Bounds, fields: &mut Fields) -> Result<Turn, 
 }
 
 /// What the word and the fields behind it say.
-#[tactic(auto, using(crate::proofs::Saying::says_as), unfolding(crate::specs::Statement::said_by))]
+#[tactic(auto, using(crate::proofs::LineAnswers::says_as), unfolding(crate::specs::Statement::said_by))]
 fn said_by(
     alloc: Global,
     limits: &Limits,
@@ -248,7 +248,7 @@ fn is_comment(field: &[u8]) -> bool
 }
 
 /// What a line says. None where it has no field or is a comment.
-#[tactic(auto, using(crate::proofs::Saying::says_as), unfolding(crate::specs::Statement::statement_of))]
+#[tactic(auto, using(crate::proofs::LineAnswers::says_as), unfolding(crate::specs::Statement::statement_of))]
 pub(crate) fn statement_of(
     alloc: Global,
     limits: &Limits,

@@ -1,7 +1,7 @@
 //! Texts and what they are, from the description of the format.
 use super::*;
 use fd_base::{Bytes, Memory, put_dec};
-use proc_run::Job;
+use run_model::Job;
 use std::alloc::Global;
 use std::test::Fail;
 

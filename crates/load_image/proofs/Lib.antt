@@ -1,9 +1,8 @@
-pub mod Entered
-pub mod Filled
-pub mod Frame
-pub mod Itemized
-pub mod Parts
-pub mod Standing
-pub mod Valued
-pub mod Writing
-pub mod Zips
+pub mod FilledRanges
+pub mod HashedEntries
+pub mod ImageFrame
+pub mod ImageParts
+pub mod ModuleItems
+pub mod SiteValues
+pub mod StandingWords
+pub mod WrittenWords

@@ -1,6 +1,6 @@
 -- The segments of a module as items to be placed, and its load map where they are.
 use Rattle.std.specs.Prelude.{ℕ, List, [], ◌∷◌, Option, Some, None}
-use Rattle.fd_base.specs.declared.map.MapEntry.{MapEntry}
+use Rattle.load_map.specs.declared.entry.MapEntry.{MapEntry}
 use Rattle.elf_model.specs.declared.object.Segment.{Segment}
 use Rattle.placement.specs.declared.item.Item.{Item}
 

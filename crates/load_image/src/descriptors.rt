@@ -4,7 +4,7 @@ ghost use Rattle.std.specs.Prelude.{◌≡◌, IfOk};
 ghost use Rattle.std.specs.Option.{option_or};
 ghost use Rattle.elf_model.specs.declared.func.Func.{Func};
 ghost use Rattle.load_model.specs.Descriptors.{listed_addr};
-ghost use Rattle.load_image.specs.Table.{hashed_addr};
+ghost use Rattle.load_image.specs.parts.Table.{hashed_addr};
 
 use crate::hashed::{Hashed, addr_of, enter_all};
 use elf_model::Func;
@@ -18,8 +18,11 @@ use std::marker::Model;
 /// given.
 #[derive(Debug, Drop)]
 pub struct Descriptors<'a> {
+    /// The functions that have one of the loader's slots already.
     pool: &'a DescPool,
+    /// Functions with a private descriptor, each with the placed address of it.
     privates: &'a [(Func, u32)],
+    /// Functions that are given a slot, each with the slot's address.
     given: &'a [(Func, u32)],
     /// The addresses in both lists.
     listed: Hashed,
@@ -31,7 +34,7 @@ impl<'a> Model for Descriptors<'a> {
     ghost use Rattle.elf_model.specs.declared.func.Func.{Func};
     ghost use Rattle.load_model.specs.Descriptors.{listed_addr};
     ghost use Rattle.load_image.specs.Addresses.{Addresses, addresses_code};
-    ghost use Rattle.load_image.specs.Table.{hashed_addr};
+    ghost use Rattle.load_image.specs.parts.Table.{hashed_addr};
 
     ghost Value = { Addresses };
 

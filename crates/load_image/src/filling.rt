@@ -1,20 +1,22 @@
 //! The words that loading writes.
 
-ghost use Rattle.std.specs.Prelude.{ℕ, ◌≡◌, ◌+◌, ◌^◌, ◌<◌, IfOk, OnOk, ◌++◌, ◌∷◌, [], All, unwrap_or, length};
+ghost use Rattle.std.specs.Prelude.{ℕ, ◌≡◌, ◌+◌, ◌^◌, ◌<◌, IfOk, OnOk, ◌++◌, ◌∷◌, [], All, unwrap_or};
 ghost use Rattle.arm_relocs.specs.Value as arm;
 ghost use Rattle.elf_model.specs.Sound.{IsSound};
 ghost use Rattle.load_model.specs.Definition.{Linkage};
-ghost use Rattle.load_model.specs.Image.{got_words, value_words, pair_words, descriptor_word, words_of, number_of_value, got_of, placed};
-ghost use Rattle.load_model.specs.Sites.{addend_of, sites_of};
-ghost use Rattle.load_image.specs.Places.{map_at, placing_of};
-ghost use Rattle.load_image.specs.Words.{HasValues, words_by, words_with};
+ghost use Rattle.load_model.specs.Image.{got_words, value_words, pair_words, descriptor_word, words_of, number_of_value, got_of};
+ghost use Rattle.load_map.specs.Maps.{map_at};
+ghost use Rattle.load_map.specs.Translation.{placed};
+ghost use Rattle.load_model.specs.Sites.{addend_of};
+ghost use Rattle.load_image.specs.Places.{placing_in};
+ghost use Rattle.load_map.specs.Maps.{map_at};
+ghost use Rattle.load_image.specs.parts.Words.{HasValues, words_by, words_with};
 
-use crate::address::placed;
 use crate::places::Places;
-use crate::sites::sites;
 use arm_relocs::apply_value;
 use elf_model::{Func, Object, Rel, file_word};
 use fd_base::Memory;
+use load_map::placed;
 use load_model::{LOAD_MAP_SIZE, LOAD_MAPS, LinkWord, MAX_MODULES, RESOLVER, SiteValue, Value};
 use std::alloc::Global;
 
@@ -43,7 +45,7 @@ fn got_words(number: u32, got: u32) -> [LinkWord; 3]
 /// What the formula of a relocation gives.
 fn formula(places: &Places, m: u32, object: &Object, rel: &Rel, value: &Value) -> u32
     requires { rel.now.site + 4 < 2 ^ 32 }
-    ensures { result ≡ unwrap_or (arm.apply_value rel.now.kind (number_of_value (placing_of places.now) value.now) (addend_of object.entry.now rel.now) (placed (map_at places.now.maps m) rel.now.site) (got_of (placing_of places.now) m)) 0 }
+    ensures { result ≡ unwrap_or (arm.apply_value rel.now.kind (number_of_value (placing_in places.now) value.now) (addend_of object.entry.now rel.now) (placed (map_at places.now.maps m) rel.now.site) (got_of (placing_in places.now) m)) 0 }
 {
     let addend = file_word(object.segments.as_slice(), rel.site);
     let site = placed(places.map(m), rel.site);
@@ -72,7 +74,7 @@ fn push_pair(
     f: &Option<Func>,
 ) -> Result<(), Memory>
     requires { site + 4 < 2 ^ 32 }
-    ensures { OnOk result (words.new.items ≡ words.old.items ++ pair_words (placing_of places.now) site f.now) }
+    ensures { OnOk result (words.new.items ≡ words.old.items ++ pair_words (placing_in places.now) site f.now) }
 {
     let (code, got) = match f {
         Some(f) => (places.place_of(f), places.got_of(f.module)),
@@ -92,7 +94,7 @@ fn push_pair(
 
 /// The address of a function's descriptor, or zero.
 fn descriptor_addr(places: &Places, f: &Option<Func>) -> u32
-    ensures { (site : ℕ) → record { addr = site; value = result } ∷ [] ≡ descriptor_word (placing_of places.now) site f.now }
+    ensures { (site : ℕ) → record { addr = site; value = result } ∷ [] ≡ descriptor_word (placing_in places.now) site f.now }
 {
     match f {
         Some(f) => places.descriptor_of(f).unwrap_or(0),
@@ -110,7 +112,7 @@ fn push_value(
     value: &SiteValue,
 ) -> Result<(), Memory>
     requires { rel.now.site + 4 < 2 ^ 32 }
-    ensures { OnOk result (words.new.items ≡ words.old.items ++ value_words (placing_of places.now) m object.entry.now rel.now value.now) }
+    ensures { OnOk result (words.new.items ≡ words.old.items ++ value_words (placing_in places.now) m object.entry.now rel.now value.now) }
 {
     match value {
         SiteValue::Place(f) => push_word(words, rel.site, places.place_of(f)),
@@ -130,7 +132,7 @@ fn push_values(
     values: &[SiteValue],
 ) -> Result<(), Memory>
     requires { All (λ r. r.site + 4 < 2 ^ 32) rels.now }
-    ensures { OnOk result (words.new.items ≡ words.old.items ++ words_by (placing_of places.now) m object.entry.now rels.now values.now) }
+    ensures { OnOk result (words.new.items ≡ words.old.items ++ words_by (placing_in places.now) m object.entry.now rels.now values.now) }
 {
     for (rel, value) in rels.iter().zip(values) {
         push_value(words, places, m, object, rel, value)?;
@@ -149,12 +151,12 @@ pub fn words(
 ) -> Result<Vec<LinkWord>, Memory>
     requires number { m < MAX_MODULES }
     requires sound { IsSound object.now }
-    ensures values { IfOk result (λ words. words.items ≡ words_with (placing_of places.now) m object.entry.now values.now) }
+    ensures values { IfOk result (λ words. words.items ≡ words_with (placing_in places.now) m object.entry.now values.now) }
     ensures known { IfOk result (λ words. (l : Linkage) → HasValues l m object.entry.now values.now
-        → words.items ≡ words_of l (placing_of places.now) m object.entry.now) }
+        → words.items ≡ words_of l (placing_in places.now) m object.entry.now) }
 {
     let mut words = Vec::from_slice(alloc, &got_words(m, object.got))?;
-    let sites = sites(alloc, object)?;
-    push_values(&mut words, places, m, object, &sites, values)?;
+    let sites = object.site_relocations(alloc)?;
+    push_values(&mut words, places, m, object, sites.as_slice(), values)?;
     Ok(words)
 }

@@ -5,9 +5,11 @@ ghost use Rattle.elf_model.specs.Places.{file_byte};
 ghost use Rattle.elf_model.specs.Sound.{IsSound, IsSized};
 ghost use Rattle.load_model.specs.Definition.{Linkage};
 ghost use Rattle.load_model.specs.Image.{byte_over, IsImage};
-ghost use Rattle.load_image.specs.Bounds.{IsWordWhole, IsMapOf};
-ghost use Rattle.load_image.specs.Places.{map_at, placing_of};
-ghost use Rattle.load_image.specs.Words.{HasValues, FitSites};
+ghost use Rattle.load_map.specs.Maps.{map_at};
+ghost use Rattle.load_image.specs.parts.Bounds.{IsWordWhole, IsMapOf};
+ghost use Rattle.load_image.specs.Places.{placing_in};
+ghost use Rattle.load_map.specs.Maps.{map_at};
+ghost use Rattle.load_image.specs.parts.Words.{HasValues, FitSites};
 
 use crate::filling::words;
 use crate::places::Places;
@@ -64,7 +66,7 @@ pub fn image(
     requires number { m < MAX_MODULES }
     requires values { FitSites object.now values.now }
     ensures { IfOk result (λ parts. (l : Linkage) → HasValues l m object.entry.now values.now
-        → IsImage l (placing_of places.now) m object.entry.now (map_at places.now.maps m) parts) }
+        → IsImage l (placing_in places.now) m object.entry.now (map_at places.now.maps m) parts) }
 {
     let words = words(alloc, places, m, object, values)?;
     let mut image = Seq::new(alloc);

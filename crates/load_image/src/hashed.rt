@@ -4,7 +4,7 @@ ghost use Rattle.std.specs.Prelude.{◌≡◌, Some, None, OnOk, if◌then◌els
 ghost use Rattle.std.specs.Option.{option_or};
 ghost use Rattle.elf_model.specs.declared.func.Func.{Func};
 ghost use Rattle.load_model.specs.Descriptors.{is_same_func, listed_addr};
-ghost use Rattle.load_image.specs.Table.{hashed_addr};
+ghost use Rattle.load_image.specs.parts.Table.{hashed_addr};
 
 use elf_model::Func;
 use fd_base::Memory;

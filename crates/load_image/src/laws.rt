@@ -1,6 +1,6 @@
 //! What holds of images themselves. A call of one does nothing.
 
-ghost use Rattle.load_image.specs.Laws.{ImagesAgree, SitesHoldTheirWords};
+ghost use Rattle.load_image.specs.parts.Laws.{ImagesAgree, SitesHoldTheirWords};
 
 /// The image of a module depends on the values of its sites, on its own place, and on the places of what these values
 /// name.

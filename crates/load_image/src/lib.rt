@@ -2,7 +2,6 @@
 //! each placed segment.
 #![tactic(auto)]
 
-mod address;
 mod descriptors;
 mod filling;
 mod finished;
@@ -11,17 +10,15 @@ mod laws;
 mod pairs;
 mod places;
 mod segments;
-mod sites;
 mod write;
 
-pub use address::placed;
 pub use descriptors::Descriptors;
 pub use filling::words;
 pub use finished::{Image, image};
 pub use laws::{images_agree, sites_hold_their_words};
 pub use pairs::{SitePair, placed_pairs};
 pub use places::Places;
-pub use segments::{LoadMap, items, load_map};
+pub use segments::{items, load_map};
 
 #[cfg(test)]
 mod tests;

@@ -1,14 +1,13 @@
 //! Functions with private descriptors.
 
 ghost use Rattle.std.specs.Prelude.{◌≡◌, All, IfOk};
-ghost use Rattle.load_image.specs.Bounds.{EndsBelow};
+ghost use Rattle.load_map.specs.parts.IsLoadMap.{EndsBelow};
 ghost use Rattle.load_image.specs.Places.{placed_pairs_of};
 
-use crate::address::placed;
-use crate::places::map_in;
-use crate::segments::LoadMap;
 use elf_model::Func;
 use fd_base::{Memory, Seq};
+use load_map::{map_at, placed};
+use load_model::MapEntries;
 use std::alloc::Global;
 
 /// A function, and a link address of its module or a placed address.
@@ -17,7 +16,7 @@ pub type SitePair = (Func, u32);
 /// The same functions, each with the placed address in place of the link address.
 pub fn placed_pairs(
     alloc: Global,
-    maps: &[LoadMap],
+    maps: &[MapEntries],
     pairs: &[SitePair],
 ) -> Result<Seq<SitePair>, Memory>
     requires { All (All EndsBelow) maps.now }
@@ -25,7 +24,7 @@ pub fn placed_pairs(
 {
     let mut placed_at = Seq::new(alloc);
     for pair in pairs {
-        placed_at.push((pair.0, placed(map_in(maps, pair.0.module), pair.1)))?;
+        placed_at.push((pair.0, placed(map_at(maps, pair.0.module), pair.1)))?;
     }
     Ok(placed_at)
 }

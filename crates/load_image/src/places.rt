@@ -1,32 +1,33 @@
 //! Where modules are placed.
 
 ghost use Rattle.std.specs.Prelude.{◌≡◌, All};
-ghost use Rattle.load_image.specs.Bounds.{EndsBelow};
-ghost use Rattle.load_image.specs.Places.{map_at, got_at};
+ghost use Rattle.load_map.specs.parts.IsLoadMap.{EndsBelow};
+ghost use Rattle.load_image.specs.Places.{got_in};
+ghost use Rattle.load_map.specs.Maps.{map_at};
 
-use crate::address::placed;
 use crate::descriptors::Descriptors;
-use crate::segments::LoadMap;
 use elf_model::Func;
-use fd_base::MapEntry;
-use load_model::Value;
+use load_map::{MapEntry, map_at, placed};
+use load_model::{MapEntries, Value};
 use std::marker::Model;
 
 /// The load map of each module and the link address of its GOT, by module number, and the address of each function's
 /// descriptor.
 #[derive(Debug, Drop)]
 pub struct Places<'a> {
-    maps: &'a [LoadMap],
+    /// The load map of each module number.
+    maps: &'a [MapEntries],
+    /// The link address of the GOT of each module number.
     gots: &'a [Option<u32>],
     descriptors: &'a Descriptors<'a>,
 }
 
 impl<'a> Model for Places<'a> {
     ghost use Rattle.std.specs.Prelude.{All};
-    ghost use Rattle.load_image.specs.Bounds.{EndsBelow};
-    ghost use Rattle.load_image.specs.Places.{Tables, tables_code};
+    ghost use Rattle.load_map.specs.parts.IsLoadMap.{EndsBelow};
+    ghost use Rattle.load_image.specs.Places.{PlaceTables, tables_code};
 
-    ghost Value = { Tables };
+    ghost Value = { PlaceTables };
 
     ghost coded = { tables_code };
 
@@ -38,13 +39,15 @@ impl<'a> Model for Places<'a> {
 impl<'a> Places<'a> {
     ghost use Rattle.std.specs.Prelude.{◌≡◌, All};
     ghost use Rattle.load_model.specs.Image.{place_of, got_of, number_of_value};
-    ghost use Rattle.load_image.specs.Bounds.{EndsBelow};
+    ghost use Rattle.load_map.specs.Maps.{map_at};
+    ghost use Rattle.load_map.specs.parts.IsLoadMap.{EndsBelow};
     ghost use Rattle.load_image.specs.Addresses.{addr_in};
-    ghost use Rattle.load_image.specs.Places.{map_at, placing_of};
+    ghost use Rattle.load_image.specs.Places.{placing_in};
+    ghost use Rattle.load_map.specs.Maps.{map_at};
 
     /// By tables with a place for each module number. Segments end below 2^32 where they are placed.
     pub fn new(
-        maps: &'a [LoadMap],
+        maps: &'a [MapEntries],
         gots: &'a [Option<u32>],
         descriptors: &'a Descriptors<'a>,
     ) -> Places<'a>
@@ -63,19 +66,19 @@ impl<'a> Places<'a> {
         ensures entries { result.now ≡ map_at self.now.maps m }
         ensures ends { All EndsBelow result.now }
     {
-        map_in(self.maps, m)
+        map_at(self.maps, m)
     }
 
     /// The placed address of a function, or of another link address.
     pub fn place_of(&self, f: &Func) -> u32
-        ensures { result ≡ place_of (placing_of self.now) f.now }
+        ensures { result ≡ place_of (placing_in self.now) f.now }
     {
         placed(self.map(f.module), f.value)
     }
 
     /// The placed address of the GOT of a module.
     pub fn got_of(&self, m: u32) -> u32
-        ensures { result ≡ got_of (placing_of self.now) m }
+        ensures { result ≡ got_of (placing_in self.now) m }
     {
         match got_in(self.gots, m) {
             Some(got) => placed(self.map(m), got),
@@ -85,7 +88,7 @@ impl<'a> Places<'a> {
 
     /// The number of a value: the placed address of one that has a place.
     pub fn number_of(&self, value: &Value) -> u32
-        ensures { result ≡ number_of_value (placing_of self.now) value.now }
+        ensures { result ≡ number_of_value (placing_in self.now) value.now }
     {
         match value {
             Value::Address(f) => self.place_of(f),
@@ -101,20 +104,8 @@ impl<'a> Places<'a> {
     }
 }
 
-/// The load map of a module in a table.
-pub fn map_in<'a>(maps: &'a [LoadMap], m: u32) -> &'a [MapEntry]
-    requires { All (All EndsBelow) maps.now }
-    ensures entries { result.now ≡ map_at maps.now m }
-    ensures ends { All EndsBelow result.now }
-{
-    match maps.get(m as usize) {
-        Some(map) => map.as_slice(),
-        None => &[],
-    }
-}
-
 fn got_in(gots: &[Option<u32>], m: u32) -> Option<u32>
-    ensures { result ≡ got_at gots.now m }
+    ensures { result ≡ got_in gots.now m }
 {
     gots.get(m as usize).copied().flatten()
 }

@@ -1,20 +1,17 @@
 //! The segments of a module as items to be placed, and its load map.
 
-ghost use Rattle.std.specs.Prelude.{◌≡◌, ◌<◌, ◌+◌, ◌≤◌, ℕ, length, All, IfOk};
-ghost use Rattle.std.specs.List.{AllZip};
+ghost use Rattle.std.specs.Prelude.{◌≡◌, ◌<◌, length, All, IfOk};
 ghost use Rattle.elf_model.specs.Sound.{IsSized};
 ghost use Rattle.placement.specs.Space.{IsOwned};
-ghost use Rattle.load_image.specs.Bounds.{IsMapOf};
+ghost use Rattle.load_image.specs.parts.Bounds.{IsMapOf};
 ghost use Rattle.load_image.specs.Items.{items_of, load_map_of};
 
 use elf_model::Segment;
-use fd_base::{MapEntry, Memory, Seq};
-use load_model::MAX_MODULES;
+use fd_base::{Memory, Seq};
+use load_map::MapEntry;
+use load_model::{MAX_MODULES, MapEntries};
 use placement::{Item, Items};
 use std::alloc::Global;
-
-/// Where the segments of a module lie, in the order of its program headers.
-pub type LoadMap = Seq<MapEntry>;
 
 fn listed_items(
     alloc: Global,
@@ -55,7 +52,7 @@ pub fn items(
     Ok(items)
 }
 
-fn entries(alloc: Global, segments: &[Segment], addrs: &[u32]) -> Result<LoadMap, Memory>
+fn entries(alloc: Global, segments: &[Segment], addrs: &[u32]) -> Result<MapEntries, Memory>
     requires { length addrs.now ≡ length segments.now }
     ensures { IfOk result (λ load_map. load_map ≡ load_map_of segments.now addrs.now) }
 {
@@ -72,7 +69,7 @@ fn entries(alloc: Global, segments: &[Segment], addrs: &[u32]) -> Result<LoadMap
 }
 
 /// Where the segments lie.
-pub fn load_map(alloc: Global, segments: &[Segment], addrs: &[u32]) -> Result<LoadMap, Memory>
+pub fn load_map(alloc: Global, segments: &[Segment], addrs: &[u32]) -> Result<MapEntries, Memory>
     requires { length addrs.now ≡ length segments.now }
     ensures entries { IfOk result (λ load_map. load_map ≡ load_map_of segments.now addrs.now) }
     ensures mapped { IfOk result (IsMapOf segments.now) }

@@ -1,20 +1,20 @@
 //! Images of a small object.
 
-ghost use Rattle.std.specs.Prelude.{◌≡◌, ◌*◌, ◌<◌, length, All, IsTrue, IfOk};
+ghost use Rattle.std.specs.Prelude.{◌≡◌, ◌*◌, ◌<◌, All, IsTrue, IfOk};
 ghost use Rattle.std.specs.List.{AllZip};
 ghost use Rattle.elf_model.specs.Sound.{IsSound};
-ghost use Rattle.load_image.specs.Bounds.{EndsBelow};
-ghost use Rattle.load_image.specs.Places.{map_at};
-ghost use Rattle.load_image.specs.Words.{HasRoom};
+ghost use Rattle.load_map.specs.parts.IsLoadMap.{EndsBelow};
+ghost use Rattle.load_map.specs.Maps.{map_at};
+ghost use Rattle.load_image.specs.parts.Words.{HasRoom};
 
-use crate::sites::sites;
-use crate::{Descriptors, Image, LoadMap, Places, image, items, load_map, placed_pairs};
+use crate::{Descriptors, Image, Places, image, items, load_map, placed_pairs};
 use elf_model::constants::R_ARM_FUNCDESC_VALUE;
 use elf_model::{Func, Object, Rel};
 use elf_read::read_object;
-use fd_base::{MapEntry, Seq, word_in};
+use fd_base::{Seq, word_in};
 use func_desc::DescPool;
-use load_model::{SiteValue, Value};
+use load_map::MapEntry;
+use load_model::{MapEntries, SiteValue, Value};
 use std::alloc::{AllocError, Global};
 use std::process::Abort;
 use std::test::Fail;
@@ -70,7 +70,7 @@ fn end_below(map: &[MapEntry]) -> bool
     true
 }
 
-fn all_end_below(maps: &[LoadMap]) -> bool
+fn all_end_below(maps: &[MapEntries]) -> bool
     ensures { IsTrue result → All (All EndsBelow) maps.now }
 {
     for map in maps {
@@ -103,7 +103,7 @@ fn have_room(rels: &[Rel], values: &[SiteValue]) -> bool
 }
 
 /// Where modules 1 and 2 lie: module 2 is an object with text at 0x20000 and data at 0x80000.
-fn maps(alloc: Global, own: LoadMap) -> Result<Vec<LoadMap>, AllocError>
+fn maps(alloc: Global, own: MapEntries) -> Result<Vec<MapEntries>, AllocError>
     ensures { IfOk result (λ maps. map_at maps.items 2 ≡ own) }
 {
     let other = [
@@ -137,8 +137,8 @@ fn finished(rt: &impl Abort, alloc: Global, values: &[SiteValue]) -> Result<Imag
     let own = load_map(alloc, segments, &[0x20000, 0x80000])?;
     let maps = maps(alloc, own)?;
     assert!(rt; all_end_below(&maps));
-    let rels = sites(alloc, &object)?;
-    assert!(rt; have_room(&rels, values));
+    let rels = object.site_relocations(alloc)?;
+    assert!(rt; have_room(rels.as_slice(), values));
     let gots = [None, Some(0x10000), Some(0x10000)];
     let pool = DescPool::new(alloc, 0x3000, 8)?;
     let given = [(func(1, 0x200), 0x3008), (func(1, 0x200), 0x3010)];
@@ -155,66 +155,30 @@ fn data_word(rt: &impl Abort, image: &Image, at: usize) -> Result<u32, Fail> {
     Ok(word_in(data.as_slice(), at))
 }
 
-#[test]
-fn sites_of_every_kind(rt: HostRuntime) -> Result<(), Fail> {
-    let values = [
-        SiteValue::Formula(Value::Address(func(1, 0x300))),
-        SiteValue::Formula(Value::Number(0x100)),
-        SiteValue::Descriptor(Some(func(1, 0x200))),
-        SiteValue::Place(func(2, 0x400)),
-        SiteValue::Pair(None),
-        SiteValue::Pair(Some(func(1, 0x300))),
-        SiteValue::Place(func(2, 0x10040)),
-    ];
-    let image = finished(&rt, rt.alloc(), &values)?;
+/// With these values of the sites, the words of the data from its fourth on.
+fn check_image(
+    rt: &impl Abort,
+    alloc: Global,
+    values: &[SiteValue],
+    words: &[u32],
+) -> Result<(), Fail> {
+    let image = finished(rt, alloc, values)?;
     assert_eq!(rt; image.len(), 2);
-    assert_eq!(rt; data_word(&rt, &image, 0)?, 0x1000);
-    assert_eq!(rt; data_word(&rt, &image, 4)?, 2);
-    assert_eq!(rt; data_word(&rt, &image, 8)?, 0x14e0);
-    assert_eq!(rt; data_word(&rt, &image, 0x0c)?, 0x40300);
-    assert_eq!(rt; data_word(&rt, &image, 0x10)?, 0x90000);
-    assert_eq!(rt; data_word(&rt, &image, 0x14)?, 0x40324);
-    assert_eq!(rt; data_word(&rt, &image, 0x18)?, 0xfff8_00f0);
-    assert_eq!(rt; data_word(&rt, &image, 0x1c)?, 0x3008);
-    assert_eq!(rt; data_word(&rt, &image, 0x20)?, 0x20400);
-    assert_eq!(rt; data_word(&rt, &image, 0x24)?, 0x80040);
-    assert_eq!(rt; data_word(&rt, &image, 0x28)?, 0);
-    assert_eq!(rt; data_word(&rt, &image, 0x2c)?, 0);
-    // the file's own word behind the sites
-    assert_eq!(rt; data_word(&rt, &image, 0x30)?, 0x10014);
-    Ok(())
-}
-
-#[test]
-fn sites_of_nothing(rt: HostRuntime) -> Result<(), Fail> {
-    let values = [
-        SiteValue::Formula(Value::Number(0)),
-        SiteValue::Formula(Value::Address(func(2, 0x10100))),
-        SiteValue::Descriptor(None),
-        SiteValue::Place(func(2, 0x10000)),
-        SiteValue::Pair(Some(func(2, 0x200))),
-        SiteValue::Pair(None),
-        SiteValue::Place(func(2, 0)),
-    ];
-    let image = finished(&rt, rt.alloc(), &values)?;
-    assert_eq!(rt; data_word(&rt, &image, 0x0c)?, 0);
-    assert_eq!(rt; data_word(&rt, &image, 0x10)?, 0);
-    assert_eq!(rt; data_word(&rt, &image, 0x14)?, 0x24);
-    assert_eq!(rt; data_word(&rt, &image, 0x18)?, 0xf0);
-    assert_eq!(rt; data_word(&rt, &image, 0x1c)?, 0);
-    assert_eq!(rt; data_word(&rt, &image, 0x20)?, 0x80000);
-    assert_eq!(rt; data_word(&rt, &image, 0x24)?, 0x20000);
-    assert_eq!(rt; data_word(&rt, &image, 0x28)?, 0x20200);
-    assert_eq!(rt; data_word(&rt, &image, 0x2c)?, 0x80000);
+    for (at, word) in [(0, 0x1000), (4, 2), (8, 0x14e0)] {
+        assert_eq!(rt; data_word(rt, &image, at)?, word);
+    }
+    for (i, word) in words.iter().enumerate() {
+        assert!(rt; i < 16);
+        assert_eq!(rt; data_word(rt, &image, 0x0c + 4 * i)?, *word);
+    }
     let text = image.as_slice().first().ok_or("no text")?;
     assert_eq!(rt; text.len(), 0x400);
     assert!(rt; text.as_slice().iter().all(|byte| *byte == 0));
     Ok(())
 }
 
-#[test]
-fn descriptors_in_order(rt: HostRuntime) -> Result<(), Fail> {
-    let alloc = rt.alloc();
+/// The first entry of a function counts: that of the pool, then of the private descriptors, then of the slots.
+fn descriptors_in_order(rt: &impl Abort, alloc: Global) -> Result<(), Fail> {
     let mut pool = DescPool::new(alloc, 0x3000, 8)?;
     let _had = pool.ensure(&func(1, 0x100))?;
     let privates = [
@@ -224,16 +188,19 @@ fn descriptors_in_order(rt: HostRuntime) -> Result<(), Fail> {
     ];
     let given = [(func(2, 0x100), 0x444), (func(1, 0x200), 0x555)];
     let descriptors = Descriptors::new(alloc, &pool, &privates, &given)?;
-    assert_eq!(rt; descriptors.get(&func(1, 0x100)), Some(0x3000));
-    assert_eq!(rt; descriptors.get(&func(2, 0x100)), Some(0x222));
-    assert_eq!(rt; descriptors.get(&func(1, 0x200)), Some(0x555));
-    assert_eq!(rt; descriptors.get(&func(2, 0x200)), None);
+    let rows = [
+        (func(1, 0x100), Some(0x3000)),
+        (func(2, 0x100), Some(0x222)),
+        (func(1, 0x200), Some(0x555)),
+        (func(2, 0x200), None),
+    ];
+    for (f, addr) in rows {
+        assert_eq!(rt; descriptors.get(&f), addr);
+    }
     Ok(())
 }
 
-#[test]
-fn items_and_load_map(rt: HostRuntime) -> Result<(), Fail> {
-    let alloc = rt.alloc();
+fn items_and_load_map(rt: &impl Abort, alloc: Global) -> Result<(), Fail> {
     let object = object(alloc)?;
     let segments = object.segments.as_slice();
     let items = items(alloc, 2, segments, &[0x20000])?;
@@ -254,9 +221,7 @@ fn items_and_load_map(rt: HostRuntime) -> Result<(), Fail> {
     Ok(())
 }
 
-#[test]
-fn private_descriptors_are_placed(rt: HostRuntime) -> Result<(), Fail> {
-    let alloc = rt.alloc();
+fn private_descriptors_are_placed(rt: &impl Abort, alloc: Global) -> Result<(), Fail> {
     let maps = maps(alloc, Seq::new(alloc))?;
     assert!(rt; all_end_below(&maps));
     let pairs = [(func(1, 0x300), 0x10010), (func(5, 0x300), 0x10010)];
@@ -266,4 +231,51 @@ fn private_descriptors_are_placed(rt: HostRuntime) -> Result<(), Fail> {
         [(func(1, 0x300), 0x90010), (func(5, 0x300), 0)].as_slice()
     );
     Ok(())
+}
+
+#[test]
+fn images(rt: HostRuntime) -> Result<(), Fail> {
+    let every_kind = [
+        SiteValue::Formula(Value::Address(func(1, 0x300))),
+        SiteValue::Formula(Value::Number(0x100)),
+        SiteValue::Descriptor(Some(func(1, 0x200))),
+        SiteValue::Place(func(2, 0x400)),
+        SiteValue::Pair(None),
+        SiteValue::Pair(Some(func(1, 0x300))),
+        SiteValue::Place(func(2, 0x10040)),
+    ];
+    // the last one is the file's own word behind the sites
+    let words = [
+        0x40300,
+        0x90000,
+        0x40324,
+        0xfff8_00f0,
+        0x3008,
+        0x20400,
+        0x80040,
+        0,
+        0,
+        0x10014,
+    ];
+    check_image(&rt, rt.alloc(), &every_kind, &words)?;
+    let nothing = [
+        SiteValue::Formula(Value::Number(0)),
+        SiteValue::Formula(Value::Address(func(2, 0x10100))),
+        SiteValue::Descriptor(None),
+        SiteValue::Place(func(2, 0x10000)),
+        SiteValue::Pair(Some(func(2, 0x200))),
+        SiteValue::Pair(None),
+        SiteValue::Place(func(2, 0)),
+    ];
+    let words = [
+        0, 0, 0x24, 0xf0, 0, 0x80000, 0x20000, 0x20200, 0x80000, 0x10014,
+    ];
+    check_image(&rt, rt.alloc(), &nothing, &words)
+}
+
+#[test]
+fn tables(rt: HostRuntime) -> Result<(), Fail> {
+    descriptors_in_order(&rt, rt.alloc())?;
+    items_and_load_map(&rt, rt.alloc())?;
+    private_descriptors_are_placed(&rt, rt.alloc())
 }

@@ -2,7 +2,7 @@
 
 ghost use Rattle.std.specs.Prelude.{◌≡◌, ◌+◌, ◌-◌, ◌^◌, ◌<◌, ℕ, length, slice_index, All, vec_len};
 ghost use Rattle.load_model.specs.Image.{byte_over};
-ghost use Rattle.load_image.specs.Bounds.{IsWordWhole};
+ghost use Rattle.load_image.specs.parts.Bounds.{IsWordWhole};
 
 use fd_base::put_word;
 use load_model::LinkWord;

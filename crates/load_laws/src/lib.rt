@@ -1,6 +1,15 @@
-//! What a load comes to is determined: laws over the definitions of `load_state`. Nothing here runs.
+//! What holds of loads and of a loader's program: that loads are determined, and that each load and each step keeps what
+//! holds of a loader. Laws over the definitions of `load_state`; nothing here runs.
 #![tactic(auto)]
 
-mod laws;
+mod consistent;
+mod descriptors;
+mod determined;
+mod loads;
+mod steps;
 
-pub use laws::{loads_are_determined, plans_are_determined};
+pub use consistent::loads_keep_consistent;
+pub use descriptors::{adoptions_are_free, descriptors_stay};
+pub use determined::{loads_are_determined, plans_are_determined};
+pub use loads::{images_stay, modules_stay, ranges_stay, tables_stay};
+pub use steps::steps_keep_consistent;

@@ -1,32 +1,22 @@
 -- The one entry that holds a link address.
-use Rattle.std.proofs.Common.{◌≡◌, ℕ, zero, suc, ◌+◌, ◌<◌, ◌≤◌, inl, inr, true, false, cond, Some, List, [], ◌∷◌, get_or, refl, sym, ap, ◌∙◌, subst, arith}
+use Rattle.std.proofs.Common.{◌≡◌, ℕ, zero, suc, ◌+◌, ◌<◌, ◌≤◌, inl, inr, true, false, cond, Some, List, [], ◌∷◌, refl, sym, ap, ◌∙◌, subst, arith}
 use Rattle.std.specs.Prelude.{AllPairs, slice_get, option_map}
 use Rattle.std.specs.List.{find}
 use Rattle.std.specs.Option.{option_or}
 use Rattle.std.proofs.lemmas.Bool.{cases_lt}
 use Rattle.std.proofs.lemmas.Bool.Decides.{nat_tests}
-use Rattle.std.proofs.lemmas.Option.{slice_get_within, get_or_from_slice_get}
-use Rattle.fd_base.specs.declared.map.MapEntry.{MapEntry}
-use Rattle.fd_base.specs.LoadMap.{address_of, is_held_by, is_end_of, placed_by}
+use Rattle.fd_base.proofs.Lists.{pairs_at, pairs_tail}
+use Rattle.fd_base.proofs.Ranges.{inside}
+use Rattle.load_map.specs.declared.entry.MapEntry.{MapEntry}
+use Rattle.load_map.specs.Translation.{address_of, is_held_by, is_end_of, placed_by}
 use Rattle.load_map.specs.Whole.{LinkedApart, PlacedApart}
 
 pub held_means : (v : ℕ) (e : MapEntry) → is_held_by v e ≡ true → (e.vaddr ≤ v) × (v < e.vaddr + e.memsz)
-held_means v e h = grind (arith, nat_tests)
+held_means v e h = inside e.vaddr e.memsz v h
 
 -- what an earlier segment doesn't hold
 other_entry : (v : ℕ) (d e : MapEntry) → LinkedApart d e → is_held_by v e ≡ true → is_held_by v d ≡ false
 other_entry v d e apart h = grind (arith, nat_tests)
-
--- two entries at different places
-pub apart_at : (R : MapEntry → MapEntry → Type 0) (map : List MapEntry) (i j : ℕ) (d e : MapEntry) → AllPairs R map → i < j
-    → slice_get map i ≡ Some d → slice_get map j ≡ Some e → R d e
-apart_at R map i j d e all lt p q =
-    let at_i : get_or map i d ≡ d = get_or_from_slice_get map i d d p in
-    let at_j : get_or map j d ≡ e = get_or_from_slice_get map j e d q in
-    subst (λ x. R x e) at_i (subst (R (get_or map i d)) at_j (all i j d lt (slice_get_within map j e q)))
-
-tail_pairs : (R : MapEntry → MapEntry → Type 0) (x : MapEntry) (map : List MapEntry) → AllPairs R (x ∷ map) → AllPairs R map
-tail_pairs R x map all = λ i j d lt within. all (suc i) (suc j) d (omega arith) (omega arith)
 
 pub find_held : (map : List MapEntry) (i v : ℕ) (e : MapEntry) → AllPairs LinkedApart map → slice_get map i ≡ Some e → is_held_by v e ≡ true
     → find (is_held_by v) map ≡ Some e
@@ -36,9 +26,9 @@ find_held (x ∷ map) zero v e all p h =
     let here : is_held_by v x ≡ true = ap (is_held_by v) same ∙ h in
     ap (λ b. cond b (Some x) (find (is_held_by v) map)) here ∙ p
 find_held (x ∷ map) (suc i) v e all p h =
-    let apart : LinkedApart x e = apart_at LinkedApart (x ∷ map) zero (suc i) x e all (omega arith) refl p in
+    let apart : LinkedApart x e = pairs_at LinkedApart (x ∷ map) zero (suc i) x e all (omega arith) refl p in
     let not_here : is_held_by v x ≡ false = other_entry v x e apart h in
-    ap (λ b. cond b (Some x) (find (is_held_by v) map)) not_here ∙ find_held map i v e (tail_pairs LinkedApart x map all) p h
+    ap (λ b. cond b (Some x) (find (is_held_by v) map)) not_here ∙ find_held map i v e (pairs_tail LinkedApart x map all) p h
 
 pub whole : (map : List MapEntry) (i v : ℕ) (e : MapEntry) → AllPairs LinkedApart map → slice_get map i ≡ Some e → is_held_by v e ≡ true
     → address_of map v ≡ Some (placed_by v e)
@@ -67,9 +57,9 @@ distinct map i j v w d e linked placed p h q g same =
     let second = whole map j w e linked q g in
     let one : placed_by v d ≡ placed_by w e = cc in
     elim (cases_lt i j) [
-      | inl lt ↦ in_two v w d e (apart_at PlacedApart map i j d e placed lt p q) h g one
+      | inl lt ↦ in_two v w d e (pairs_at PlacedApart map i j d e placed lt p q) h g one
       | inr le ↦ elim (cases_lt j i) [
-        | inl lt ↦ sym (in_two w v e d (apart_at PlacedApart map j i e d placed lt q p) g h (sym one))
+        | inl lt ↦ sym (in_two w v e d (pairs_at PlacedApart map j i e d placed lt q p) g h (sym one))
         | inr ge ↦ same_place i j d e p q h g one (omega arith)
       ]
     ]

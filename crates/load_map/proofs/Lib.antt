@@ -1,1 +1,4 @@
 pub mod Holding
+pub mod Imaged
+pub mod Reached
+pub mod Translated

@@ -3,10 +3,10 @@
 use Rattle.std.specs.Prelude.{ℕ, List, ◌++◌, length}
 use Rattle.std.specs.List.{flat_map}
 use Rattle.byteorder.specs.Endian.{little_bytes}
-use Rattle.fd_base.specs.declared.map.MapEntry.{MapEntry}
+use Rattle.load_map.specs.declared.entry.MapEntry.{MapEntry}
 
 abbrev pub entry_bytes : MapEntry → List ℕ
 entry_bytes e = little_bytes 4 e.addr ++ little_bytes 4 e.vaddr ++ little_bytes 4 e.memsz
 
-abbrev pub image_of : List MapEntry → List ℕ
-image_of map = little_bytes 2 0 ++ little_bytes 2 (length map) ++ flat_map entry_bytes map
+abbrev pub bytes_of_map : List MapEntry → List ℕ
+bytes_of_map map = little_bytes 2 0 ++ little_bytes 2 (length map) ++ flat_map entry_bytes map

@@ -1,3 +1,5 @@
 pub mod Image
-pub mod IsLoadMap
+pub mod Maps
+pub mod Translation
 pub mod Whole
+pub mod parts

@@ -1,7 +1,7 @@
 -- Each segment is placed as a whole, and no two places are one.
 use Rattle.std.specs.Prelude.{◌≡◌, ℕ, ◌+◌, ◌≤◌, ◌⊎◌, true, List, Some, AllPairs, slice_get}
-use Rattle.fd_base.specs.declared.map.MapEntry.{MapEntry}
-use Rattle.fd_base.specs.LoadMap.{address_of, is_held_by, placed_by}
+use Rattle.load_map.specs.declared.entry.MapEntry.{MapEntry}
+use Rattle.load_map.specs.Translation.{address_of, is_held_by, placed_by}
 
 -- two segments share no link address
 abbrev pub LinkedApart : MapEntry → MapEntry → Type 0

@@ -2,10 +2,11 @@
 
 ghost use Rattle.std.specs.Prelude.{◌≡◌, ◌+◌, ◌*◌, ◌^◌, ◌<◌, ◌≤◌, ◌++◌, length};
 ghost use Rattle.byteorder.specs.Endian.{little_bytes};
-ghost use Rattle.load_map.specs.Image.{image_of, entry_bytes};
+ghost use Rattle.load_map.specs.Image.{bytes_of_map, entry_bytes};
 
+use crate::entry::MapEntry;
 use crate::map::MAX_ENTRIES;
-use fd_base::{MapEntry, put_word};
+use fd_base::put_word;
 use std::marker::Model;
 
 /// The size of the fields before the entries, in bytes.
@@ -35,10 +36,10 @@ impl Model for MapImage {
 }
 
 impl MapImage {
-    /// The image of these entries.
-    pub(crate) fn of(entries: &[MapEntry]) -> MapImage
+    /// The bytes of a load map with these entries.
+    pub fn of(entries: &[MapEntry]) -> MapImage
         requires { length entries.now ≤ MAX_ENTRIES }
-        ensures bytes { result ≡ image_of entries.now }
+        ensures bytes { result ≡ bytes_of_map entries.now }
         ensures size { length result ≡ HEAD_SIZE + ENTRY_SIZE * length entries.now }
     {
         let mut image = MapImage::head(entries.len() as u32);

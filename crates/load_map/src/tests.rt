@@ -1,6 +1,7 @@
 //! Values from outside: a map of two segments, and the edges of the largest.
 
-use crate::{LoadMap, MapEntry};
+use crate::{LoadMap, MapEntry, is_placed_at, map_at, placed};
+use fd_base::Seq;
 use std::test::Fail;
 
 const LAST: u32 = 0xffff_ffff;
@@ -32,6 +33,9 @@ fn two_segments(rt: HostRuntime) -> Result<(), Fail> {
     ];
     for (v, addr) in rows {
         assert_eq!(rt; map.translate(v), addr, "at {v}");
+    }
+    for (v, addr) in rows {
+        assert_eq!(rt; placed(map.as_slice(), v), addr.unwrap_or(0), "at {v}");
     }
     let image = map.image();
     let text = hex::encode(rt.alloc(), image.as_slice())?;
@@ -79,5 +83,29 @@ fn eight_segments_up_to_the_last_address(rt: HostRuntime) -> Result<(), Fail> {
     let empty = LoadMap::new(rt.alloc(), &[])?;
     assert_eq!(rt; empty.translate(0), None);
     assert_eq!(rt; empty.image().as_slice(), [0, 0, 0, 0].as_slice());
+    Ok(())
+}
+
+#[test]
+fn places_of_modules(rt: HostRuntime) -> Result<(), Fail> {
+    let entry = MapEntry {
+        addr: LAST - 4,
+        vaddr: 0,
+        memsz: 4,
+    };
+    let rows = [
+        (LAST - 5, false),
+        (LAST - 4, true),
+        (LAST - 1, true),
+        (LAST, false),
+        (0, false),
+    ];
+    for (addr, is_placed) in rows {
+        assert_eq!(rt; is_placed_at(&entry, addr), is_placed, "at {addr}");
+    }
+    let maps = [Seq::new(rt.alloc()), Seq::from_slice(rt.alloc(), &[entry])?];
+    assert_eq!(rt; map_at(&maps, 0), [].as_slice());
+    assert_eq!(rt; map_at(&maps, 1), [entry].as_slice());
+    assert_eq!(rt; map_at(&maps, 2), [].as_slice());
     Ok(())
 }

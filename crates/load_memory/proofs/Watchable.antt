@@ -1,47 +1,38 @@
 -- Ranges that loading fills, in the segments of a sound object, and where they are placed.
-use Rattle.std.proofs.Common.{◌≡◌, inl, inr, ℕ, zero, suc, ◌+◌, ◌-◌, ◌^◌, ◌<◌, ◌≤◌, Bool, true, false, cond, List, [], ◌∷◌, Option, Some, None, length, get_or, refl, ap, sym, subst, ◌∙◌, arith}
-use Rattle.std.specs.Prelude.{◌&&◌, ◌||◌, All, AllPairs, IsSome, slice_get, find, unwrap_or}
+use Rattle.std.proofs.Common.{◌≡◌, inl, inr, ℕ, zero, suc, ◌+◌, ◌-◌, ◌^◌, ◌<◌, ◌≤◌, Bool, true, false, cond, List, [], ◌∷◌, Option, Some, None, length, get_or, refl, ap, sym, ◌∙◌, arith}
+use Rattle.std.specs.Prelude.{◌&&◌, ◌||◌, All, AllPairs, slice_get, unwrap_or}
 use Rattle.std.specs.List.{AllZip}
 use Rattle.std.proofs.lemmas.Bool.Decides.{nat_tests}
 use Rattle.std.proofs.lemmas.List.Folds.{list_any_none}
 use Rattle.std.proofs.lemmas.List.Elements.{All-weaker}
 use Rattle.std.proofs.lemmas.Option.{slice_get_within, slice_get-get_or}
-use Rattle.fd_base.specs.declared.map.MapEntry.{MapEntry}
-use Rattle.fd_base.specs.LoadMap.{is_held_by, placed_by}
+use Rattle.fd_base.proofs.Bools.{and_true, or_false}
+use Rattle.load_map.specs.declared.entry.MapEntry.{MapEntry}
+use Rattle.load_map.specs.Translation.{is_held_by, placed_by, placed}
 use Rattle.elf_model.specs.declared.constants.TheConstants.{PF_W, PF_X}
 use Rattle.elf_model.specs.declared.object.Segment.{Segment}
 use Rattle.elf_model.specs.Places.{is_held_in, is_executable_in, is_writable_in, spans}
 use Rattle.elf_model.specs.Segments.{has_flag}
-use Rattle.elf_model.specs.Sound.{IsSized, SegmentsApart}
+use Rattle.elf_model.specs.Sound.{SegmentsApart}
 use Rattle.guest_mem.specs.declared.kind.MemKind.{MemKind}
 use Rattle.guest_mem.specs.declared.kind.MemKind.TheVariants.{Code, Data, Fixed}
-use Rattle.guest_mem.specs.Memory.{Memory, kind_at, is_marked}
-use Rattle.guest_mem.specs.Kept.{SameMap}
-use Rattle.load_map.specs.IsLoadMap.{EndsInside}
+use Rattle.guest_mem.specs.Memory.{GuestMemory, kind_at, is_marked}
+use Rattle.guest_mem.specs.parts.Kept.{SameMap}
+use Rattle.load_map.specs.parts.IsLoadMap.{EndsBelow}
 use Rattle.load_map.specs.Whole.{LinkedApart}
-use Rattle.load_map.proofs.Holding.{find_held, whole}
-use Rattle.load_model.specs.Image.{placed}
+use Rattle.load_map.proofs.Holding.{whole}
 use Rattle.load_model.specs.Layout.{kind_of_segment}
-use Rattle.load_memory.specs.Placing.{AreMapped, IsPlacedBy}
-use Rattle.load_memory.specs.Watching.{IsWatchable}
-use Rattle.load_memory.proofs.Lists.{both, all_at, all_from, pairs_at, pairs_head, pairs_tail}
-use Rattle.load_memory.proofs.Mapping.{is_in-there}
-use Rattle.load_memory.proofs.Zipped.{zip_at, zip_right}
+use Rattle.load_memory.specs.parts.PlacingSteps.{AreMapped, IsPlacedBy}
+use Rattle.load_memory.specs.parts.WatchedRanges.{IsWatchable}
+use Rattle.load_memory.proofs.ListPlaces.{both}
+use Rattle.fd_base.proofs.Lists.{pairs_tail, pairs_head, pairs_at, all_at}
+use Rattle.fd_base.proofs.Ranges.{is_inside}
+use Rattle.load_memory.proofs.PairedLists.{zip_at, zip_right}
 
 -- ---- the load map of segments
 
-ends_one : (s : Segment) (e : MapEntry) (n : ℕ) → IsPlacedBy s e → IsSized s → e.addr + e.memsz ≤ n → n < 2 ^ 32 → EndsInside e
-ends_one s e n same sized below l =
-    let at : e.vaddr ≡ s.vaddr = same.vaddr in
-    let long : e.memsz ≡ s.memsz = same.memsz in
-    let end : s.vaddr + s.memsz < 2 ^ 32 = sized.end in
-    (omega arith, omega arith)
-
-pub ends_inside : (ss : List Segment) (es : List MapEntry) (n : ℕ) → AllZip IsPlacedBy ss es → All IsSized ss → All (λ (e : MapEntry). e.addr + e.memsz ≤ n) es → n < 2 ^ 32 → All EndsInside es
-ends_inside ss es n same sized below l =
-    all_from EndsInside es (λ k e p.
-    let of = zip_right IsPlacedBy ss es k e same p in
-    ends_one of.0 e n (zip_at IsPlacedBy ss es k of.0 e same of.1 p) (all_at IsSized ss k of.0 sized of.1) (all_at (λ (x : MapEntry). x.addr + x.memsz ≤ n) es k e below p) l)
+pub ends_below : (es : List MapEntry) (n : ℕ) → All (λ (e : MapEntry). e.addr + e.memsz ≤ n) es → n < 2 ^ 32 → All EndsBelow es
+ends_below es n below l = All-weaker (λ (e : MapEntry). e.addr + e.memsz ≤ n) EndsBelow (λ e p. omega arith) es below
 
 linked_one : (s t : Segment) (d e : MapEntry) → IsPlacedBy s d → IsPlacedBy t e → SegmentsApart s t → LinkedApart d e
 linked_one s t d e p q (inl before) =
@@ -131,14 +122,6 @@ and_false : (a b : Bool) → b ≡ false → (a && b) ≡ false
 and_false true b h = h
 and_false false b h = refl
 
-and_true : (a b : Bool) → b ≡ true → (a && b) ≡ a
-and_true true b h = h
-and_true false b h = refl
-
-or_false : (a b : Bool) → b ≡ false → (a || b) ≡ a
-or_false true b h = refl
-or_false false b h = h
-
 none_held : (s : Segment) (ss : List Segment) (v : ℕ) → All (SegmentsApart s) ss → is_held_in s v ≡ true → All (λ (t : Segment). (has_flag t.flags PF_X && is_held_in t v) ≡ false) ss
 none_held s ss v apart h =
     All-weaker (SegmentsApart s) (λ (t : Segment). (has_flag t.flags PF_X && is_held_in t v) ≡ false) (λ t p. and_false (has_flag t.flags PF_X) (is_held_in t v) (not_held s t v p h)) ss apart
@@ -163,19 +146,16 @@ module _ (ss : List Segment) (es : List MapEntry) (same : AllZip IsPlacedBy ss e
       let long : lies.e.memsz ≡ lies.s.memsz = lies.same.memsz in
       let from : lies.s.vaddr ≤ v = lies.from in
       let to : v + len ≤ lies.s.vaddr + lies.s.memsz = lies.to in
-      is_in-there lies.e.vaddr lies.e.memsz v (omega arith) (omega arith)
+      is_inside lies.e.vaddr lies.e.memsz v (omega arith) (omega arith)
 
   held_in : is_held_in lies.s v ≡ true
   held_in =
       let from : lies.s.vaddr ≤ v = lies.from in
       let to : v + len ≤ lies.s.vaddr + lies.s.memsz = lies.to in
-      is_in-there lies.s.vaddr lies.s.memsz v from (omega arith)
+      is_inside lies.s.vaddr lies.s.memsz v from (omega arith)
 
   pub placed_there : placed es v ≡ placed_by v lies.e
   placed_there = ap (λ o. unwrap_or o 0) (whole es lies.k v lies.e (linked_apart ss es same apart) lies.entry held)
-
-  pub found : IsSome (find (is_held_by v) es)
-  found = subst IsSome (sym (find_held es lies.k v lies.e (linked_apart ss es same apart) lies.entry held)) refl
 
   -- the range lies in the entry as it does in the segment
   pub inside : (lies.e.addr ≤ placed es v) × (placed es v + len ≤ lies.e.addr + lies.e.memsz)
@@ -192,26 +172,25 @@ module _ (ss : List Segment) (es : List MapEntry) (same : AllZip IsPlacedBy ss e
       ap (λ b. cond (has_flag lies.s.flags PF_X) Code (cond b Data Fixed)) lies.writable
       ∙ ap (λ b. cond b Code Data) (sym (executable_by ss lies.k v lies.s apart lies.segment held_in))
 
-  pub watchable_there : (n : ℕ) (old m : Memory) → n ≡ length es → AreMapped ss es n old m → All (λ (e : MapEntry). e.addr + e.memsz ≤ length m.bytes) es → IsWatchable ss es m v len
+  pub watchable_there : (n : ℕ) (old m : GuestMemory) → n ≡ length es → AreMapped ss es n old m → All (λ (e : MapEntry). e.addr + e.memsz ≤ length m.bytes) es → IsWatchable ss es m v len
   watchable_there n old m count mapped room =
       let within : lies.k < length es = slice_get_within es lies.k lies.e lies.entry in
       let range : (lies.e.addr ≤ placed es v) × (placed es v + len ≤ lies.e.addr + lies.e.memsz) = inside in
       let below : lies.e.addr + lies.e.memsz ≤ length m.bytes = all_at (λ (e : MapEntry). e.addr + e.memsz ≤ length m.bytes) es lies.k lies.e room lies.entry in
       record {
-        held = found;
         inside = omega arith;
         kinds = λ a l l'.
-            mapped.kinds lies.k a lies.s lies.e (omega arith) lies.segment lies.entry (is_in-there lies.e.addr lies.e.memsz a (omega arith) (omega arith))
+            mapped.kinds lies.k a lies.s lies.e (omega arith) lies.segment lies.entry (is_inside lies.e.addr lies.e.memsz a (omega arith) (omega arith))
             ∙ ap (λ x. Some x) kind;
       }
 
 -- a range that loading fills may be watched
-pub watchable : (ss : List Segment) (es : List MapEntry) (n v len : ℕ) (old m : Memory) → AllZip IsPlacedBy ss es → AllPairs SegmentsApart ss → 0 < len → is_writable_in ss v len ≡ true
+pub watchable : (ss : List Segment) (es : List MapEntry) (n v len : ℕ) (old m : GuestMemory) → AllZip IsPlacedBy ss es → AllPairs SegmentsApart ss → 0 < len → is_writable_in ss v len ≡ true
     → n ≡ length es → AreMapped ss es n old m → All (λ (e : MapEntry). e.addr + e.memsz ≤ length m.bytes) es → IsWatchable ss es m v len
 watchable ss es n v len old m same apart some writable count mapped room = watchable_there ss es same apart v len some (lies_in ss es v len same writable) n old m count mapped room
 
 -- one map and the same marks are as good
-pub AreMapped-same : (ss : List Segment) (es : List MapEntry) (n : ℕ) (old m m' : Memory) → AreMapped ss es n old m → SameMap m m' → AreMapped ss es n old m'
+pub AreMapped-same : (ss : List Segment) (es : List MapEntry) (n : ℕ) (old m m' : GuestMemory) → AreMapped ss es n old m → SameMap m m' → AreMapped ss es n old m'
 AreMapped-same ss es n old m m' mapped same =
     let kinds : (a : ℕ) → kind_at m' a ≡ kind_at m a = λ a. ap (λ (xs : List (Option MemKind)). get_or xs a None) same.kinds in
     let marks : (a : ℕ) → is_marked m' a ≡ is_marked m a = λ a. ap (λ (xs : List Bool). get_or xs a false) same.marks in

@@ -1,4 +1,1 @@
-pub mod Modules
-pub mod Placing
-pub mod Stubs
-pub mod Watching
+pub mod parts

@@ -1,12 +1,13 @@
 //! The memory of a process without modules.
 
 ghost use Rattle.std.specs.Prelude.{◌≡◌, ℕ, ◌-◌, ◌≤◌, false, None, length, IfOk};
-ghost use Rattle.guest_mem.specs.Kept.{SameMap};
+ghost use Rattle.guest_mem.specs.parts.Kept.{SameMap};
 ghost use Rattle.guest_mem.specs.Memory.{byte_at, kind_at, is_marked};
-ghost use Rattle.load_model.specs.Layout.{IsLaidOut, fixed_kind, is_in};
+ghost use Rattle.load_model.specs.Layout.{IsLaidOut, fixed_kind};
+ghost use Rattle.fd_base.specs.Ranges.{is_in};
 ghost use Rattle.load_model.specs.Plan.{Fits};
-ghost use Rattle.load_memory.specs.Modules.{nothing};
-ghost use Rattle.load_memory.specs.Stubs.{HasStubs};
+ghost use Rattle.load_memory.specs.parts.Modules.{nothing};
+ghost use Rattle.load_memory.specs.parts.Stubs.{HasStubs};
 
 use crate::bytes::fill_words;
 use fd_base::Memory;

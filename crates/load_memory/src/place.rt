@@ -7,16 +7,18 @@ ghost use Rattle.guest_mem.specs.Memory.{HaveKind, byte_at, is_watched, kind_at}
 ghost use Rattle.load_map.specs.Whole.{PlacedApart};
 ghost use Rattle.load_model.specs.declared.plan.MemPlan.{MemPlan};
 ghost use Rattle.load_model.specs.Image.{load_map_at};
-ghost use Rattle.load_model.specs.Layout.{HasLoadMap, InMemory, IsLaidOut, is_in};
-ghost use Rattle.load_memory.specs.Modules.{with_module};
-ghost use Rattle.load_memory.specs.Placing.{IsPlacedBy, LiesWithin};
+ghost use Rattle.load_model.specs.Layout.{HasLoadMap, InMemory, IsLaidOut};
+ghost use Rattle.fd_base.specs.Ranges.{is_in};
+ghost use Rattle.load_memory.specs.parts.Modules.{with_module};
+ghost use Rattle.load_memory.specs.parts.PlacingSteps.{IsPlacedBy, LiesWithin};
 
 use crate::segments::{map_segments, write_parts};
 use crate::tables::put_load_map;
 use crate::watch::watch_ranges;
 use elf_model::Object;
-use fd_base::{Bytes, MapEntry};
+use fd_base::Bytes;
 use guest_mem::Guest;
+use load_map::MapEntry;
 use load_model::{DESCRIPTORS, LOAD_MAP_SIZE, MAX_MODULES};
 
 /// Places a new module: maps its segments, writes their finished bytes and its load map, and watches what no store may

@@ -5,13 +5,14 @@ ghost use Rattle.std.specs.List.{AllZip};
 ghost use Rattle.guest_mem.specs.Memory.{HaveKind};
 ghost use Rattle.load_map.specs.Whole.{PlacedApart};
 ghost use Rattle.load_model.specs.Layout.{kind_of_segment};
-ghost use Rattle.load_memory.specs.Placing.{AreMapped, AreFilled};
+ghost use Rattle.load_memory.specs.parts.PlacingSteps.{AreMapped, AreFilled};
 
 use crate::bytes::fill_bytes;
 use elf_model::Segment;
 use elf_model::constants::{PF_W, PF_X};
-use fd_base::{Bytes, MapEntry};
+use fd_base::Bytes;
 use guest_mem::{Guest, MemKind};
+use load_map::MapEntry;
 
 /// What a segment is mapped as.
 fn kind_of(segment: &Segment) -> MemKind

@@ -1,16 +1,17 @@
 //! Values from outside: the stubs' words, the bytes of a load map as the FDPIC ABI lays it out, and what may be read,
 //! fetched and written where.
 
-ghost use Rattle.std.specs.Prelude.{◌≡◌, [], ◌∷◌, length, IfOk};
+ghost use Rattle.std.specs.Prelude.{◌≡◌, [], length, IfOk};
 ghost use Rattle.std.specs.List.{AllZip};
 ghost use Rattle.elf_model.specs.Sound.{IsSound};
-ghost use Rattle.load_memory.specs.Placing.{IsPlacedBy};
+ghost use Rattle.load_memory.specs.parts.PlacingSteps.{IsPlacedBy};
 
 use crate::tables::put_load_map;
 use crate::{new_memory, put_module, put_pair};
 use elf_model::{Inits, Kind, Object, Segment};
-use fd_base::{Bytes, MapEntry, Memory, Seq};
+use fd_base::{Bytes, Memory, Seq};
 use guest_mem::Access;
+use load_map::MapEntry;
 use load_model::MemPlan;
 use std::alloc::Global;
 use std::test::Fail;

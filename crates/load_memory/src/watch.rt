@@ -1,39 +1,24 @@
 //! What no store may change in the memory of a module.
 
-ghost use Rattle.std.specs.Prelude.{◌≡◌, ◌==◌, IsSome, All, [], ◌∷◌, find};
-ghost use Rattle.fd_base.specs.LoadMap.{is_held_by};
-ghost use Rattle.load_map.specs.IsLoadMap.{EndsInside};
-ghost use Rattle.load_model.specs.Image.{placed};
+ghost use Rattle.std.specs.Prelude.{◌≡◌, ◌==◌, All, [], ◌∷◌};
+ghost use Rattle.load_map.specs.Translation.{placed};
+ghost use Rattle.load_map.specs.parts.IsLoadMap.{EndsBelow};
 ghost use Rattle.load_model.specs.Layout.{watched_ranges};
 ghost use Rattle.load_memory.specs.declared.watch.TheConstants.{GOT_HEADER_SIZE};
-ghost use Rattle.load_memory.specs.Watching.{AreWatched, IsWatchable, pair_ranges};
+ghost use Rattle.load_memory.specs.parts.WatchedRanges.{AreWatched, IsWatchable, pair_ranges};
 
 use elf_model::constants::R_ARM_FUNCDESC_VALUE;
 use elf_model::{Object, Rel, Segment, is_executable_in};
-use fd_base::MapEntry;
 use guest_mem::Guest;
+use load_map::{MapEntry, placed};
 use load_model::DESCRIPTOR_SIZE;
 
 /// The size of the header of the GOT, in bytes.
 const GOT_HEADER_SIZE: u32 = 12;
 
-/// The placed address of a link address that a segment holds.
-fn placed(load_map: &[MapEntry], v: u32) -> u32
-    requires ends { All EndsInside load_map.now }
-    requires held { IsSome (find (is_held_by v) load_map.now) }
-    ensures { result ≡ placed load_map.now v }
-{
-    for entry in load_map {
-        if entry.vaddr <= v && u64::from(v) < u64::from(entry.vaddr) + u64::from(entry.memsz) {
-            return v - entry.vaddr + entry.addr;
-        }
-    }
-    unreachable!()
-}
-
 /// Watches what was placed of `len` bytes at a link address. Code is watched anyway.
 fn watch_range(guest: &mut Guest, segments: &[Segment], load_map: &[MapEntry], v: u32, len: u32)
-    requires ends { All EndsInside load_map.now }
+    requires ends { All EndsBelow load_map.now }
     requires watchable { IsWatchable segments.now load_map.now guest.old v len }
     ensures { AreWatched ((placed load_map.now v, len) ∷ []) guest.old guest.new }
 {
@@ -45,7 +30,7 @@ fn watch_range(guest: &mut Guest, segments: &[Segment], load_map: &[MapEntry], v
 
 /// Watches the descriptor that a relocation fills, if it fills one.
 fn watch_pair(guest: &mut Guest, segments: &[Segment], load_map: &[MapEntry], rel: &Rel)
-    requires ends { All EndsInside load_map.now }
+    requires ends { All EndsBelow load_map.now }
     requires watchable { rel.now.kind ≡ R_ARM_FUNCDESC_VALUE → IsWatchable segments.now load_map.now guest.old rel.now.site DESCRIPTOR_SIZE }
     ensures { AreWatched (pair_ranges load_map.now (rel.now ∷ [])) guest.old guest.new }
 {
@@ -56,7 +41,7 @@ fn watch_pair(guest: &mut Guest, segments: &[Segment], load_map: &[MapEntry], re
 
 /// Watches the descriptors that these relocations fill.
 fn watch_pairs(guest: &mut Guest, segments: &[Segment], load_map: &[MapEntry], rels: &[Rel])
-    requires ends { All EndsInside load_map.now }
+    requires ends { All EndsBelow load_map.now }
     requires watchable { All (λ r. r.kind ≡ R_ARM_FUNCDESC_VALUE → IsWatchable segments.now load_map.now guest.old r.site DESCRIPTOR_SIZE) rels.now }
     ensures { AreWatched (pair_ranges load_map.now rels.now) guest.old guest.new }
 {
@@ -67,7 +52,7 @@ fn watch_pairs(guest: &mut Guest, segments: &[Segment], load_map: &[MapEntry], r
 
 /// Watches the header of the GOT and the descriptors of a module.
 pub(crate) fn watch_ranges(guest: &mut Guest, object: &Object, load_map: &[MapEntry])
-    requires ends { All EndsInside load_map.now }
+    requires ends { All EndsBelow load_map.now }
     requires got { IsWatchable object.now.segments load_map.now guest.old object.now.got GOT_HEADER_SIZE }
     requires rels { All (λ r. r.kind ≡ R_ARM_FUNCDESC_VALUE → IsWatchable object.now.segments load_map.now guest.old r.site DESCRIPTOR_SIZE) object.now.rels }
     requires slots { All (λ r. r.kind ≡ R_ARM_FUNCDESC_VALUE → IsWatchable object.now.segments load_map.now guest.old r.site DESCRIPTOR_SIZE) object.now.jmprels }

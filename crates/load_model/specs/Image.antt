@@ -4,8 +4,8 @@ use Rattle.std.specs.Prelude.{◌≡◌, ℕ, ◌+◌, ◌-◌, ◌*◌, ◌<◌
 use Rattle.std.specs.Option.{option_map_or}
 use Rattle.std.specs.List.{AllZip, flat_map}
 use Rattle.std.specs.Int.{w32, to_le_bytes}
-use Rattle.fd_base.specs.declared.map.MapEntry.{MapEntry}
-use Rattle.fd_base.specs.LoadMap.{address_of}
+use Rattle.load_map.specs.declared.entry.MapEntry.{MapEntry}
+use Rattle.load_map.specs.Translation.{placed}
 use Rattle.elf_model.specs.declared.func.Func.{Func}
 use Rattle.elf_model.specs.declared.object.Object.{Object}
 use Rattle.elf_model.specs.declared.object.Rel.{Rel}
@@ -19,7 +19,8 @@ use Rattle.load_model.specs.declared.meaning.Value.{Value}
 use Rattle.load_model.specs.declared.meaning.Value.TheVariants.{Address, Number}
 use Rattle.load_model.specs.declared.words.LinkWord.{LinkWord}
 use Rattle.load_model.specs.Definition.{Linkage}
-use Rattle.load_model.specs.Sites.{addend_of, site_value, sites_of}
+use Rattle.load_model.specs.Sites.{addend_of, site_value}
+use Rattle.elf_model.specs.Filled.{site_relocations}
 
 -- where modules are placed: the load map of each, the link address of its GOT, and the address of each function's
 -- descriptor
@@ -29,10 +30,6 @@ pub record Placing : Type 0 where
   pub descriptors : Func → Option ℕ
 
 -- ---- placed addresses
-
--- the placed address of a link address that has one
-abbrev pub placed : List MapEntry → ℕ → ℕ
-placed load_map v = unwrap_or (address_of load_map v) 0
 
 abbrev pub place_of : Placing → Func → ℕ
 place_of p f = placed (p.maps f.module) f.value
@@ -87,7 +84,7 @@ words_for p m o r (Err refusal) = []
 
 -- what loading writes over the bytes of the file
 abbrev pub words_of : Linkage → Placing → ℕ → Object → List LinkWord
-words_of l p m o = got_words m o.got ++ flat_map (λ r. words_for p m o r (site_value l m o r)) (sites_of o)
+words_of l p m o = got_words m o.got ++ flat_map (λ r. words_for p m o r (site_value l m o r)) (site_relocations o)
 
 -- ---- bytes
 

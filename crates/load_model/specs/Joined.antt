@@ -1,11 +1,10 @@
 -- A process after a load: the new modules are one new group, whose scope is fixed from now on.
-use Rattle.std.specs.Prelude.{ℕ, Bool, ◌||◌, List, [], ◌∷◌, set, Option, Some, if◌then◌else◌}
+use Rattle.std.specs.Prelude.{ℕ, Bool, ◌||◌, List, [], ◌∷◌, set, Option, Some, if◌then◌else◌, is_none}
 use Rattle.std.specs.List.{list_all}
-use Rattle.std.specs.Prelude.{is_none}
 use Rattle.load_model.specs.declared.module.Group.{Group}
 use Rattle.load_model.specs.declared.module.Joining.{Joining}
 use Rattle.load_model.specs.declared.module.Live.{Live}
-use Rattle.load_model.specs.declared.module.Process.{Process}
+use Rattle.load_model.specs.declared.module.SymbolicProcess.{SymbolicProcess}
 
 -- a new module of a group, which nobody has opened yet
 abbrev pub live_from : ℕ → Joining → Live
@@ -25,15 +24,15 @@ groups_after groups [] scope = groups
 groups_after groups (j ∷ joining) scope = set groups j.number (Some (record { scope = scope }))
 
 -- whether no module is live
-abbrev pub is_empty : Process → Bool
+abbrev pub is_empty : SymbolicProcess → Bool
 is_empty p = list_all (λ place. is_none place) p.modules
 
 -- The global list after a load: with the first load, and where it is asked for, it gains the members of the root's
 -- closure that it hasn't; that is what the scope of new modules is.
-abbrev pub global_after : Process → Bool → List ℕ → List ℕ
+abbrev pub global_after : SymbolicProcess → Bool → List ℕ → List ℕ
 global_after p asked scope = if asked || is_empty p then scope else p.global
 
-abbrev pub process_after : Process → List Joining → List ℕ → List ℕ → Process
+abbrev pub process_after : SymbolicProcess → List Joining → List ℕ → List ℕ → SymbolicProcess
 process_after p joining scope global = record {
   modules = modules_after p.modules (group_of joining) joining;
   groups = groups_after p.groups joining scope;

@@ -1,27 +1,25 @@
 -- Where things lie in the memory of a process, and what no store changes. The parts of the memory are this loader's own;
 -- that each segment of a module is placed by itself is the FDPIC ABI's ("Load maps").
-use Rattle.std.specs.Prelude.{◌≡◌, ◌≢◌, ℕ, ◌+◌, ◌-◌, ◌*◌, ◌<◌, Bool, true, false, ◌&&◌, ◌==◌, nat_le, nat_lt, List, [], ◌∷◌, length, map, filter, slice_index, slice_get, Option, Some, None, Contains, if◌then◌else◌}
+use Rattle.std.specs.Prelude.{◌≡◌, ◌≢◌, ℕ, ◌+◌, ◌-◌, ◌*◌, ◌<◌, true, false, ◌==◌, List, [], ◌∷◌, length, map, filter, slice_index, slice_get, Option, Some, None, Contains, if◌then◌else◌}
 use Rattle.std.specs.List.{flat_map}
 use Rattle.std.specs.Int.{w32, to_le_bytes}
-use Rattle.fd_base.specs.declared.map.MapEntry.{MapEntry}
+use Rattle.fd_base.specs.Ranges.{is_in}
+use Rattle.load_map.specs.declared.entry.MapEntry.{MapEntry}
 use Rattle.elf_model.specs.declared.constants.TheConstants.{PF_W, PF_X, R_ARM_FUNCDESC_VALUE}
 use Rattle.elf_model.specs.declared.object.Object.{Object}
 use Rattle.elf_model.specs.declared.object.Segment.{Segment}
 use Rattle.elf_model.specs.Segments.{has_flag}
 use Rattle.guest_mem.specs.declared.kind.MemKind.{MemKind}
 use Rattle.guest_mem.specs.declared.kind.MemKind.TheVariants.{Code, Data, Fixed}
-use Rattle.guest_mem.specs.Memory.{Memory, IsMemory, HaveKind, byte_at, kind_at, is_marked, is_watched}
+use Rattle.guest_mem.specs.Memory.{GuestMemory, IsMemory, HaveKind, byte_at, kind_at, is_marked, is_watched}
 use Rattle.load_map.specs.Image as map_image
 use Rattle.load_model.specs.declared.layout.TheConstants.{RESOLVER, STUBS_END, LOAD_MAPS, LOAD_MAP_SIZE}
 use Rattle.load_model.specs.declared.plan.MemPlan.{MemPlan}
 use Rattle.load_model.specs.declared.plan.TheConstants.{DESCRIPTORS, DESCRIPTOR_SIZE}
-use Rattle.load_model.specs.Image.{placed, load_map_at}
+use Rattle.load_model.specs.Image.{load_map_at}
+use Rattle.load_map.specs.Translation.{placed}
 use Rattle.load_model.specs.Plan.{high_of}
-use Rattle.load_model.specs.Sites.{sites_of}
-
--- whether an address is among len from one on
-abbrev pub is_in : ℕ → ℕ → ℕ → Bool
-is_in start len a = nat_le start a && nat_lt a (start + len)
+use Rattle.elf_model.specs.Filled.{site_relocations}
 
 -- ---- kinds
 
@@ -59,7 +57,7 @@ pub record LiesAt (mods : InMemory) (m : ℕ) (s : Segment) (e : MapEntry) : Typ
 abbrev pub watched_ranges : List MapEntry → Object → List (ℕ × ℕ)
 watched_ranges load_map o =
     (placed load_map o.got, 12)
-    ∷ map (λ r. (placed load_map r.site, 8)) (filter (λ r. r.kind == R_ARM_FUNCDESC_VALUE) (sites_of o))
+    ∷ map (λ r. (placed load_map r.site, 8)) (filter (λ r. r.kind == R_ARM_FUNCDESC_VALUE) (site_relocations o))
 
 -- the bytes of a range that module m has watched
 pub record WatchesAt (mods : InMemory) (m start len : ℕ) : Type 0 where
@@ -69,7 +67,7 @@ pub record WatchesAt (mods : InMemory) (m start len : ℕ) : Type 0 where
 
 -- Each address is mapped as what lies there, and watched where something lies there that no store may change. Marks stand
 -- where Data is watched, and nowhere else.
-pub record IsLaidOut (plan : MemPlan) (mods : InMemory) (memory : Memory) : Type 0 where
+pub record IsLaidOut (plan : MemPlan) (mods : InMemory) (memory : GuestMemory) : Type 0 where
   pub whole : IsMemory memory
   pub size : length memory.bytes ≡ plan.memory
   pub fixed : (a : ℕ) (kind : MemKind) → fixed_kind plan a ≡ Some kind → kind_at memory a ≡ Some kind
@@ -84,21 +82,21 @@ pub record IsLaidOut (plan : MemPlan) (mods : InMemory) (memory : Memory) : Type
 -- ---- tables
 
 -- words that stand from an address on
-abbrev pub HasBytes : Memory → ℕ → List ℕ → Type 0
+abbrev pub HasBytes : GuestMemory → ℕ → List ℕ → Type 0
 HasBytes memory start bytes = (i : ℕ) → i < length bytes → byte_at memory (start + i) ≡ slice_index bytes i
 
 abbrev pub bytes_of_words : List ℕ → List ℕ
 bytes_of_words words = flat_map (to_le_bytes w32) words
 
 -- a range of zeros
-abbrev pub IsClear : Memory → ℕ → ℕ → Type 0
-IsClear memory start len = (i : ℕ) → i < len → byte_at memory (start + i) ≡ 0
+abbrev pub IsBlank : GuestMemory → ℕ → ℕ → Type 0
+IsBlank memory start len = (i : ℕ) → i < len → byte_at memory (start + i) ≡ 0
 
 -- what stands in the load map of a number: that of the module, and zeros behind it
-pub record HasLoadMap (memory : Memory) (m : ℕ) (load_map : List MapEntry) : Type 0 where
-  pub bytes : HasBytes memory (load_map_at m) (map_image.image_of load_map)
-  pub rest : IsClear memory (load_map_at m + length (map_image.image_of load_map)) (LOAD_MAP_SIZE - length (map_image.image_of load_map))
+pub record HasLoadMap (memory : GuestMemory) (m : ℕ) (load_map : List MapEntry) : Type 0 where
+  pub bytes : HasBytes memory (load_map_at m) (map_image.bytes_of_map load_map)
+  pub rest : IsBlank memory (load_map_at m + length (map_image.bytes_of_map load_map)) (LOAD_MAP_SIZE - length (map_image.bytes_of_map load_map))
 
 -- the two words of a descriptor
-abbrev pub HasPair : Memory → ℕ → ℕ → ℕ → Type 0
+abbrev pub HasPair : GuestMemory → ℕ → ℕ → ℕ → Type 0
 HasPair memory at code got = HasBytes memory at (bytes_of_words (code ∷ got ∷ []))

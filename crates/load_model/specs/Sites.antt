@@ -1,9 +1,10 @@
 -- What loading writes at the places that it fills, before anything is placed (ELF for the Arm Architecture, "Dynamic
 -- relocations"; Arm FDPIC ABI, "Relocations" and "rofixup"), or why it can't.
-use Rattle.std.specs.Prelude.{ℕ, ◌+◌, ◌%◌, ◌^◌, Bool, true, false, option_and_then, ◌&&◌, ◌||◌, ◌==◌, List, ◌++◌, [], map, slice_get, Option, Some, None, Result, Ok, Err, unwrap_or, if◌then◌else◌}
+use Rattle.std.specs.Prelude.{ℕ, ◌+◌, ◌%◌, ◌^◌, Bool, true, false, option_and_then, ◌&&◌, ◌||◌, ◌==◌, List, slice_get, Option, Some, None, Result, Ok, Err, if◌then◌else◌}
 use Rattle.std.specs.Option.{option_map_or}
 use Rattle.std.specs.List.{list_any, filter_map, flat_map}
 use Rattle.std.specs.Result.{result_err}
+use Rattle.elf_model.specs.Filled.{site_relocations}
 use Rattle.elf_model.specs.declared.constants.TheConstants.{R_ARM_FUNCDESC, R_ARM_FUNCDESC_VALUE, R_ARM_RELATIVE, STT_SECTION}
 use Rattle.elf_model.specs.declared.func.Func.{Func}
 use Rattle.elf_model.specs.declared.object.Object.{Object}
@@ -24,15 +25,7 @@ use Rattle.load_model.specs.declared.meaning.Value.{Value}
 use Rattle.load_model.specs.declared.meaning.Value.TheVariants.{Address, Number}
 use Rattle.load_model.specs.Definition.{Linkage, definition_of, name_at, symbol_at}
 
--- ---- the sites of an object
-
--- a word of `.rofixup` means what R_ARM_RELATIVE means
-abbrev pub fixup_at : ℕ → Rel
-fixup_at site = record { site = site; kind = R_ARM_RELATIVE; symbol = 0 }
-
--- what loading fills but the header of the GOT: DT_REL, DT_JMPREL and the fixups, each in table order
-abbrev pub sites_of : Object → List Rel
-sites_of o = o.rels ++ o.jmprels ++ map fixup_at (unwrap_or o.fixups [])
+-- ---- sites
 
 -- the addend is the file's word at the site
 abbrev pub addend_of : Object → Rel → ℕ
@@ -136,7 +129,7 @@ site_value l m o r =
 
 -- why sites of module m can't be filled, in the order of its sites
 abbrev pub refusals_of : Linkage → ℕ → Object → List LoadRefusal
-refusals_of l m o = filter_map (λ r. result_err (site_value l m o r)) (sites_of o)
+refusals_of l m o = filter_map (λ r. result_err (site_value l m o r)) (site_relocations o)
 
 -- a module by number, with its object
 abbrev pub Member : Type 0

@@ -3,20 +3,20 @@ use Rattle.std.specs.Prelude.{◌≡◌, ◌≢◌, ℕ, true, length, Some, Non
 use Rattle.symbol_scope.specs.declared.tables.TheConstants.{MAX_MODULES}
 use Rattle.load_model.specs.declared.module.Group.{Group}
 use Rattle.load_model.specs.declared.module.Live.{Live}
-use Rattle.load_model.specs.declared.module.Process.{Process}
+use Rattle.load_model.specs.declared.module.SymbolicProcess.{SymbolicProcess}
 use Rattle.load_model.specs.Process.{live_at, is_live, number_of, group_at, group_scope}
 
 -- a live module: it is in a live group, and what it needs is live and in that group's scope
-pub record IsMember (p : Process) (m : ℕ) (live : Live) : Type 0 where
+pub record IsMember (p : SymbolicProcess) (m : ℕ) (live : Live) : Type 0 where
   pub grouped : group_at p live.group ≢ None
   pub needs : All (λ name. IsSomeAnd (number_of p name) (λ n. Contains (group_scope p m) n)) live.object.needed
 
 -- a live group: its number is that of a member, and the modules of its scope are live
-pub record IsGroup (p : Process) (g : ℕ) (group : Group) : Type 0 where
+pub record IsGroup (p : SymbolicProcess) (g : ℕ) (group : Group) : Type 0 where
   pub founder : IsSomeAnd (live_at p g) (λ live. live.group ≡ g)
   pub scope' : All (λ n. is_live p n ≡ true) group.scope
 
-pub record IsValid (p : Process) : Type 0 where
+pub record IsValid (p : SymbolicProcess) : Type 0 where
   pub modules' : length p.modules ≡ MAX_MODULES
   pub groups' : length p.groups ≡ MAX_MODULES
   pub names : (m n : ℕ) (a b : Live) → live_at p m ≡ Some a → live_at p n ≡ Some b → a.name ≡ b.name → m ≡ n

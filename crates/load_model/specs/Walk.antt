@@ -11,9 +11,9 @@ use Rattle.elf_model.specs.declared.refusal.ElfRefusal.{ElfRefusal}
 use Rattle.elf_model.specs.Object.{IsObject, refusal_of}
 use Rattle.symbol_scope.specs.Closure.{with_new}
 use Rattle.load_model.specs.declared.module.Joining.{Joining}
-use Rattle.load_model.specs.declared.module.Process.{Process}
+use Rattle.load_model.specs.declared.module.SymbolicProcess.{SymbolicProcess}
 use Rattle.load_model.specs.declared.error.LoadRefusal.{LoadRefusal}
-use Rattle.load_model.specs.declared.error.LoadRefusal.TheVariants.{NotBuilt, Elf, NoFile, TooLong, TooManyModules, Unresolved, NotCode, DescriptorsFull, NoRoom, BadAddress}
+use Rattle.load_model.specs.declared.error.LoadRefusal.TheVariants.{Elf, NoFile, TooLong, TooManyModules}
 use Rattle.load_model.specs.Process.{object_at, number_of, free_numbers}
 
 -- ---- files
@@ -35,13 +35,7 @@ abbrev pub IsFileRefused : Option Files → List ℕ → LoadRefusal → Type 0
 IsFileRefused files name (TooLong n) = (n ≡ name) × IfSome files (λ told. IsSomeAnd (get told name) (λ bytes. MAX_FILE < length bytes))
 IsFileRefused files name (NoFile n) = (n ≡ name) × IfSome files (λ told. get told name ≡ None)
 IsFileRefused files name (Elf n r) = (n ≡ name) × FileIsRefused files name r
-IsFileRefused files name (NotBuilt n) = ⊥
-IsFileRefused files name TooManyModules = ⊥
-IsFileRefused files name (Unresolved m n) = ⊥
-IsFileRefused files name (NotCode m n) = ⊥
-IsFileRefused files name (DescriptorsFull n) = ⊥
-IsFileRefused files name (NoRoom i) = ⊥
-IsFileRefused files name (BadAddress m site) = ⊥
+IsFileRefused files name other = ⊥
 
 -- ---- names
 
@@ -50,11 +44,11 @@ abbrev pub joining_named : List Joining → List ℕ → Option Joining
 joining_named joining name = find (λ j. bytes_eq j.name name) joining
 
 -- the number of the live or new module of a name
-abbrev pub number_among : Process → List Joining → List ℕ → Option ℕ
+abbrev pub number_among : SymbolicProcess → List Joining → List ℕ → Option ℕ
 number_among p joining name = option_or (number_of p name) (option_map (λ j. j.number) (joining_named joining name))
 
 -- the names that the live or new module of a name needs, in table order
-abbrev pub needed_by : Process → List Joining → List ℕ → List (List ℕ)
+abbrev pub needed_by : SymbolicProcess → List Joining → List ℕ → List (List ℕ)
 needed_by p joining name =
     option_map_or (λ o. o.needed)
     (option_or (option_and_then (object_at p) (number_of p name)) (option_map (λ j. j.object) (joining_named joining name)))
@@ -70,7 +64,7 @@ found_after needs root (suc n) =
 
 -- After n of the names that were found were looked at: the new modules are those of these names that weren't live, with
 -- the lowest free numbers in order, each the object of its file.
-pub record IsWalked (p : Process) (files : Option Files) (root : List ℕ) (n : ℕ) (joining : List Joining) (names : List (List ℕ)) : Type 0 where
+pub record IsWalked (p : SymbolicProcess) (files : Option Files) (root : List ℕ) (n : ℕ) (joining : List Joining) (names : List (List ℕ)) : Type 0 where
   pub names' : names ≡ found_after (needed_by p joining) root n
   pub looked : n ≤ length names
   pub fresh : map (λ j. j.name) joining ≡ filter (λ name. is_none (number_of p name)) (take n names)
@@ -79,11 +73,11 @@ pub record IsWalked (p : Process) (files : Option Files) (root : List ℕ) (n : 
   pub files' : All (λ j. FileIs files j.name j.object) joining
 
 -- every name that was found was looked at
-pub record IsWalk (p : Process) (files : Option Files) (root : List ℕ) (joining : List Joining) (names : List (List ℕ)) : Type 0 where
+pub record IsWalk (p : SymbolicProcess) (files : Option Files) (root : List ℕ) (joining : List Joining) (names : List (List ℕ)) : Type 0 where
   pub walked : IsWalked p files root (length names) joining names
 
 -- the next name is new, and there is no number for it
-pub record HasNoNumber (p : Process) (files : Option Files) (root : List ℕ) : Type 0 where
+pub record HasNoNumber (p : SymbolicProcess) (files : Option Files) (root : List ℕ) : Type 0 where
   pub n : ℕ
   pub joining : List Joining
   pub names : List (List ℕ)
@@ -94,7 +88,7 @@ pub record HasNoNumber (p : Process) (files : Option Files) (root : List ℕ) : 
   pub full : length joining ≡ length (free_numbers p)
 
 -- the next name is new, there is a number for it, and its file is refused
-pub record HasNoObject (p : Process) (files : Option Files) (root : List ℕ) (r : LoadRefusal) : Type 0 where
+pub record HasNoObject (p : SymbolicProcess) (files : Option Files) (root : List ℕ) (r : LoadRefusal) : Type 0 where
   pub n : ℕ
   pub joining : List Joining
   pub names : List (List ℕ)
@@ -106,14 +100,9 @@ pub record HasNoObject (p : Process) (files : Option Files) (root : List ℕ) (r
   pub cause : IsFileRefused files name r
 
 -- why the walk ends early
-abbrev pub IsWalkRefused : Process → Option Files → List ℕ → LoadRefusal → Type 0
+abbrev pub IsWalkRefused : SymbolicProcess → Option Files → List ℕ → LoadRefusal → Type 0
 IsWalkRefused p files root TooManyModules = HasNoNumber p files root
 IsWalkRefused p files root (TooLong n) = HasNoObject p files root (TooLong n)
 IsWalkRefused p files root (NoFile n) = HasNoObject p files root (NoFile n)
 IsWalkRefused p files root (Elf n r) = HasNoObject p files root (Elf n r)
-IsWalkRefused p files root (NotBuilt n) = ⊥
-IsWalkRefused p files root (Unresolved m n) = ⊥
-IsWalkRefused p files root (NotCode m n) = ⊥
-IsWalkRefused p files root (DescriptorsFull n) = ⊥
-IsWalkRefused p files root (NoRoom i) = ⊥
-IsWalkRefused p files root (BadAddress m site) = ⊥
+IsWalkRefused p files root other = ⊥

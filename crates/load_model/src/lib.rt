@@ -4,9 +4,11 @@
 
 mod error;
 mod layout;
+mod maps;
 mod meaning;
 mod module;
 mod plan;
+mod process;
 mod words;
 
 pub use error::{LoadErr, LoadRefusal};
@@ -14,8 +16,9 @@ pub use layout::{
     END_WORDS, LOAD_MAP_SIZE, LOAD_MAPS, PROCESS_END, RESOLVER, RESOLVER_WORDS, STUBS_END,
     THREAD_END,
 };
+pub use maps::{MapEntries, Maps};
 pub use meaning::{Definition, SiteValue, Value};
-pub use module::{Group, Groups, Joining, Live, Modules, Process};
+pub use module::{Group, Groups, Joining, Live, Modules, SymbolicProcess};
 pub use plan::{DESCRIPTOR_SIZE, DESCRIPTORS, MemPlan, PlaceLine, Places, THREADS, listed_for};
 pub use symbol_scope::MAX_MODULES;
 pub use words::{LinkWord, SlotPair};

@@ -26,12 +26,12 @@ pub enum Value {
 /// What loading writes at a site.
 #[derive(Clone, Copy, Debug, PartialEq, Eq)]
 pub enum SiteValue {
-    /// The placed address of a link address of a module.
+    /// One word: the placed address of a link address of a module.
     Place(Func),
-    /// What the formula of the relocation's kind gives for the value of its symbol.
+    /// One word: what the formula of the relocation's kind gives for the value of its symbol.
     Formula(Value),
-    /// The placed entry point of a function and the GOT of its module, or two zeros.
+    /// Two words: the placed address of a function and that of the GOT of its module, or two zeros.
     Pair(Option<Func>),
-    /// The address of a function's descriptor, or zero.
+    /// One word: the placed address of a function's descriptor, or zero.
     Descriptor(Option<Func>),
 }

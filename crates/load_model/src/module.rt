@@ -8,8 +8,9 @@ use fd_base::{Name, Numbers, Seq};
 pub struct Live {
     /// The name under which its file was fetched. No two live modules have one name.
     pub name: Name,
+    /// What its file says. Addresses in it are link addresses.
     pub object: Object,
-    /// The number of its group.
+    /// The number of its group: the module number of the group's first module.
     pub group: u32,
     /// How often it was opened and not closed.
     pub opens: u32,
@@ -29,8 +30,10 @@ pub type Groups = Seq<Option<Group>>;
 
 /// A process without addresses.
 #[derive(Debug, Drop)]
-pub struct Process {
+pub struct SymbolicProcess {
+    /// A place for each module number. None has no live module.
     pub modules: Modules,
+    /// A place for each group number. None has no live group.
     pub groups: Groups,
     /// The numbers of the modules whose symbols every later group finds, in this order.
     pub global: Numbers,
@@ -39,7 +42,10 @@ pub struct Process {
 /// A module that a load adds, and the number that it gets.
 #[derive(Debug, Drop)]
 pub struct Joining {
+    /// Its module number, from 0 to 63.
     pub number: u32,
+    /// The name under which its file was fetched.
     pub name: Name,
+    /// What its file says. Addresses in it are link addresses.
     pub object: Object,
 }

@@ -1,7 +1,6 @@
 //! The memory plan of a process.
 
-ghost use Rattle.std.specs.Prelude.{◌≡◌, ◌<◌, ◌^◌, IfOk};
-ghost use Rattle.std.specs.Str.{bytes_eq};
+ghost use Rattle.std.specs.Prelude.{◌≡◌, ◌<◌, IfOk};
 ghost use Rattle.load_model.specs.Plan.{Fits, low_of, high_of, listed_for};
 
 use fd_base::{Memory, Name, Seq};
@@ -18,20 +17,23 @@ pub const THREADS: u32 = 8;
 /// How the memory of a process is parted.
 #[derive(Debug, Drop)]
 pub struct MemPlan {
-    /// How many bytes there are.
+    /// How many bytes there are, from address 0 on.
     pub memory: u32,
-    /// For how many descriptors there is room below the modules.
+    /// For how many descriptors, of `DESCRIPTOR_SIZE` bytes each, there is room below the modules.
     pub descriptors: u32,
     /// How many bytes each stack has. The stacks lie at the end of the memory.
     pub stack: u32,
-    /// The addresses that are listed for modules.
+    /// Where modules are to be placed that are listed by name.
     pub places: Places,
 }
 
 /// The addresses that are listed for the segments of one module, in their order.
 #[derive(Debug, Drop)]
 pub struct PlaceLine {
+    /// The name of the module.
     pub name: Name,
+    /// The address at which each segment is to be placed, in the order of its program headers. Those behind the last
+    /// one of the list have none.
     pub addrs: Addrs,
 }
 

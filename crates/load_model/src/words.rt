@@ -3,7 +3,9 @@
 /// A word that loading writes at a link address.
 #[derive(Clone, Copy, Debug, PartialEq, Eq)]
 pub struct LinkWord {
+    /// The link address of its first byte.
     pub addr: u32,
+    /// The word itself, which is written little-endian. Where it is an address, that is a placed one.
     pub value: u32,
 }
 
@@ -14,6 +16,6 @@ pub struct SlotPair {
     pub addr: u32,
     /// Its first word: the placed entry point of the function.
     pub code: u32,
-    /// Its second word: the GOT of the function's module.
+    /// Its second word: the placed address of the GOT of the function's module.
     pub got: u32,
 }

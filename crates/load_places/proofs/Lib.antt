@@ -1,5 +1,12 @@
-pub mod Adding
-pub mod Lists
-pub mod Placing
-pub mod Putting
-pub mod Tiny
+pub mod AddedModules
+pub mod CommitSteps
+pub mod GivenSlots
+pub mod MemoryAfter
+pub mod ModuleLists
+pub mod NewSegments
+pub mod NextModule
+pub mod PairedLists
+pub mod PlansPlaceable
+pub mod PutDescriptors
+pub mod SegmentEnds
+pub mod TinyModules

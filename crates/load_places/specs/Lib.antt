@@ -1,3 +1,1 @@
-pub mod Descriptors
-pub mod Modules
-pub mod Placeable
+pub mod parts

@@ -5,11 +5,11 @@ ghost use Rattle.elf_model.specs.Sound.{IsSound};
 
 use crate::put_modules;
 use elf_model::{Inits, Kind, Object, Segment};
-use fd_base::{Bytes, MapEntry, Memory, Name, Seq};
+use fd_base::{Bytes, Memory, Name, Seq};
 use guest_mem::Access;
-use load_image::LoadMap;
+use load_map::MapEntry;
 use load_memory::new_memory;
-use load_model::{Joining, MemPlan};
+use load_model::{Joining, MapEntries, MemPlan};
 use std::alloc::Global;
 use std::test::Fail;
 
@@ -74,7 +74,7 @@ fn tiny_module(alloc: Global, number: u32) -> Result<Joining, Fail>
     })
 }
 
-fn tiny_map(alloc: Global, addr: u32) -> Result<LoadMap, Memory>
+fn tiny_map(alloc: Global, addr: u32) -> Result<MapEntries, Memory>
     ensures { IfOk result (λ load_map. load_map ≡ record { addr = addr; vaddr = 0; memsz = 64 } ∷ []) }
 {
     Seq::from_slice(

@@ -7,25 +7,22 @@ use Rattle.std.proofs.Math.Path.{fun_ext}
 use Rattle.std.proofs.lemmas.Bool.{cases_lt, cases_Bool, eqb-true}
 use Rattle.std.proofs.lemmas.List.Elements.{All-head, All-tail}
 use Rattle.std.proofs.lemmas.List.FromFn.{get_or-map-range_with_len, length-map-range_with_len}
-use Rattle.std.proofs.lemmas.Option.{unwrap_or-slice_get, slice_get-get_or, slice_get_past}
-use Rattle.fd_base.specs.declared.map.MapEntry.{MapEntry}
+use Rattle.std.proofs.lemmas.Option.{slice_get-get_or, slice_get_past}
+use Rattle.load_map.specs.declared.entry.MapEntry.{MapEntry}
 use Rattle.elf_model.specs.declared.func.Func.{Func}
 use Rattle.load_model.specs.declared.module.Joining.{Joining}
 use Rattle.load_model.specs.declared.module.Live.{Live}
-use Rattle.load_model.specs.declared.module.Process.{Process}
+use Rattle.load_model.specs.declared.module.SymbolicProcess.{SymbolicProcess}
 use Rattle.load_model.specs.Definition.{Linkage}
 use Rattle.load_model.specs.Descriptors.{descriptors_after}
 use Rattle.load_model.specs.Image.{Placing}
+use Rattle.load_map.specs.Maps.{map_at}
 use Rattle.load_model.specs.Linkage.{joining_at}
 use Rattle.load_model.specs.Process.{object_at}
-use Rattle.load_image.specs.Places.{Tables, placing_of, got_at}
-use Rattle.load_image.specs.Places as by_tables
-use Rattle.load_state.specs.Loaded.{map_at}
-use Rattle.load_plan.specs.Filling.{AreFinished, AreImages, gots_of, placing_by}
-
--- a table of load maps, and the definition
-pub same_map_at : (maps : List (List MapEntry)) → by_tables.map_at maps ≡ map_at maps
-same_map_at maps = fun_ext (λ m. unwrap_or-slice_get maps m [])
+use Rattle.load_image.specs.Places.{PlaceTables, placing_in, got_in}
+use Rattle.load_map.specs.Maps.{map_at}
+use Rattle.load_plan.specs.parts.FinishedBytes.{AreImages}
+use Rattle.load_state.specs.Accepted.{AreFinished, gots_of, placing_by}
 
 -- ---- the GOTs
 
@@ -39,17 +36,17 @@ none_joins (j ∷ joining) m small past =
       | inr other ↦ rw other rest
     ]
 
-dead_past : (p : Process) (m : ℕ) → length p.modules ≡ 64 → 64 ≤ m → object_at p m ≡ None
+dead_past : (p : SymbolicProcess) (m : ℕ) → length p.modules ≡ 64 → 64 ≤ m → object_at p m ≡ None
 dead_past p m size past =
     let none : slice_get p.modules m ≡ None = slice_get_past p.modules m (omega (arith, size, past)) in
     ap (λ (place : Option (Option Live)). option_map (λ (live : Live). live.object) (option_and_then (λ x. x) place)) none
 
-no_got_past : (p : Process) (joining : List Joining) (m : ℕ) → length p.modules ≡ 64 → All (λ j. j.number < 64) joining → 64 ≤ m → gots_of p joining m ≡ None
+no_got_past : (p : SymbolicProcess) (joining : List Joining) (m : ℕ) → length p.modules ≡ 64 → All (λ j. j.number < 64) joining → 64 ≤ m → gots_of p joining m ≡ None
 no_got_past p joining m size small past =
     rw (none_joins joining m small past, dead_past p m size past) refl
 
-pub same_got_at : (p : Process) (joining : List Joining) → length p.modules ≡ 64 → All (λ j. j.number < 64) joining
-    → got_at (map (gots_of p joining) (range_with_len 0 64)) ≡ gots_of p joining
+pub same_got_at : (p : SymbolicProcess) (joining : List Joining) → length p.modules ≡ 64 → All (λ j. j.number < 64) joining
+    → got_in (map (gots_of p joining) (range_with_len 0 64)) ≡ gots_of p joining
 same_got_at p joining size small = fun_ext each
   where
     table : List (Option ℕ)
@@ -58,7 +55,7 @@ same_got_at p joining size small = fun_ext each
     len : length table ≡ 64
     len = length-map-range_with_len (gots_of p joining) 0 64
 
-    each : (m : ℕ) → got_at table m ≡ gots_of p joining m
+    each : (m : ℕ) → got_in table m ≡ gots_of p joining m
     each m =
         elim (cases_lt m 64) [
           | inl lt ↦
@@ -75,18 +72,15 @@ same_got_at p joining size small = fun_ext each
 abbrev placing_from : (ℕ → List MapEntry) → (ℕ → Option ℕ) → (Func → Option ℕ) → Placing
 placing_from maps gots descriptors = record { maps = maps; gots = gots; descriptors = descriptors }
 
-pub same_placing : (p : Process) (joining : List Joining) (t : Tables) → length p.modules ≡ 64 → All (λ j. j.number < 64) joining
-    → t.gots ≡ map (gots_of p joining) (range_with_len 0 64) → placing_of t ≡ placing_by p t.descriptors.had joining t.maps t.descriptors.privates t.descriptors.given
+pub same_placing : (p : SymbolicProcess) (joining : List Joining) (t : PlaceTables) → length p.modules ≡ 64 → All (λ j. j.number < 64) joining
+    → t.gots ≡ map (gots_of p joining) (range_with_len 0 64) → placing_in t ≡ placing_by p t.descriptors.had joining t.maps t.descriptors.privates t.descriptors.given
 same_placing p joining t size small gots =
     let addr = descriptors_after (get t.descriptors.had) t.descriptors.privates t.descriptors.given in
-    ap (λ maps. placing_from maps (got_at t.gots) addr) (same_map_at t.maps)
-    ∙ ap (λ got. placing_from (map_at t.maps) got addr) (ap got_at gots ∙ same_got_at p joining size small)
+    ap (λ got. placing_from (map_at t.maps) got addr) (ap got_in gots ∙ same_got_at p joining size small)
 
 -- the parts of new modules, by tables and by definition
-pub finished_by : (l : Linkage) (p : Process) (joining : List Joining) (t : Tables) (parts : List (List (List ℕ))) → length p.modules ≡ 64 → All (λ j. j.number < 64) joining
-    → t.gots ≡ map (gots_of p joining) (range_with_len 0 64) → AllZip (AreImages l (placing_of t) (by_tables.map_at t.maps)) joining parts
+pub finished_by : (l : Linkage) (p : SymbolicProcess) (joining : List Joining) (t : PlaceTables) (parts : List (List (List ℕ))) → length p.modules ≡ 64 → All (λ j. j.number < 64) joining
+    → t.gots ≡ map (gots_of p joining) (range_with_len 0 64) → AllZip (AreImages l (placing_in t) (map_at t.maps)) joining parts
     → AreFinished l (placing_by p t.descriptors.had joining t.maps t.descriptors.privates t.descriptors.given) joining t.maps parts
 finished_by l p joining t parts size small gots made =
-    let q = placing_by p t.descriptors.had joining t.maps t.descriptors.privates t.descriptors.given in
-    subst (λ (at : ℕ → List MapEntry). AllZip (AreImages l q at) joining parts) (same_map_at t.maps)
-    (subst (λ (placing : Placing). AllZip (AreImages l placing (by_tables.map_at t.maps)) joining parts) (same_placing p joining t size small gots) made)
+    subst (λ (placing : Placing). AllZip (AreImages l placing (map_at t.maps)) joining parts) (same_placing p joining t size small gots) made

@@ -1,4 +1,1 @@
-pub mod Linking
-pub mod Placing
-pub mod Filling
-pub mod Layout
+pub mod parts

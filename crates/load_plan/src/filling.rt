@@ -6,20 +6,22 @@ ghost use Rattle.symbol_scope.specs.declared.tables.TheConstants.{MAX_MODULES};
 ghost use Rattle.func_desc.specs.Pool.{free_slots};
 ghost use Rattle.load_model.specs.Definition.{Linkage};
 ghost use Rattle.load_model.specs.Image.{IsImage};
+ghost use Rattle.load_map.specs.Maps.{map_at};
 ghost use Rattle.load_model.specs.declared.module.Joining.{Joining};
-ghost use Rattle.load_sites.specs.Values.{IsValues};
-ghost use Rattle.load_walk.specs.Taken.{IsTaken};
-ghost use Rattle.load_image.specs.Bounds.{IsMapOf};
-ghost use Rattle.load_image.specs.Places.{map_at, placing_of};
-ghost use Rattle.load_image.specs.Words.{FitSites};
-ghost use Rattle.load_plan.specs.Filling.{AreImages, IsFull, gots_of};
+ghost use Rattle.load_sites.specs.parts.Values.{IsValues};
+ghost use Rattle.load_process.specs.parts.TakenObjects.{IsTaken};
+ghost use Rattle.load_image.specs.parts.Bounds.{IsMapOf};
+ghost use Rattle.load_image.specs.Places.{placing_in};
+ghost use Rattle.load_map.specs.Maps.{map_at};
+ghost use Rattle.load_image.specs.parts.Words.{FitSites};
+ghost use Rattle.load_plan.specs.parts.FinishedBytes.{AreImages, HasNoSlots};
+ghost use Rattle.load_state.specs.Accepted.{gots_of};
 
 use elf_model::Func;
 use fd_base::{Bytes, Memory, Seq};
 use func_desc::DescPool;
 use load_image::{Places, image};
-use load_model::{Joining, LoadErr, LoadRefusal, MAX_MODULES, Process};
-use load_process::object_at;
+use load_model::{Joining, LoadErr, LoadRefusal, MAX_MODULES, SymbolicProcess};
 use load_sites::Values;
 use load_state::{Descriptors, Parts};
 use std::alloc::Global;
@@ -42,7 +44,7 @@ fn given(alloc: Global, pool: &DescPool, wanted: &[Func]) -> Result<Descriptors,
 pub fn slots_for(alloc: Global, pool: &DescPool, wanted: &[Func]) -> Result<Descriptors, LoadErr>
     ensures given { IfOk result (λ given. given ≡ zip wanted.now (free_slots pool.now)) }
     ensures enough { OnOk result (length wanted.now ≤ length (free_slots pool.now)) }
-    ensures error { IfErr result (IsFull (length (free_slots pool.now)) (length wanted.now)) }
+    ensures error { IfErr result (HasNoSlots (length (free_slots pool.now)) (length wanted.now)) }
 {
     let free = pool.free();
     if wanted.len() > free as usize {
@@ -52,7 +54,7 @@ pub fn slots_for(alloc: Global, pool: &DescPool, wanted: &[Func]) -> Result<Desc
 }
 
 /// The link address of a module's GOT, new or live.
-fn got_of(process: &Process, joining: &[Joining], m: u32) -> Option<u32>
+fn got_of(process: &SymbolicProcess, joining: &[Joining], m: u32) -> Option<u32>
     ensures { result ≡ gots_of process.now joining.now m }
 {
     for new in joining {
@@ -60,13 +62,13 @@ fn got_of(process: &Process, joining: &[Joining], m: u32) -> Option<u32>
             return Some(new.object.got);
         }
     }
-    Some(object_at(process, m)?.got)
+    Some(process.object_at(m)?.got)
 }
 
 /// The link address of each module's GOT, by module number.
 pub fn gots(
     alloc: Global,
-    process: &Process,
+    process: &SymbolicProcess,
     joining: &[Joining],
 ) -> Result<Vec<Option<u32>>, Memory>
     ensures { IfOk result (λ gots. gots.items ≡ map (gots_of process.now joining.now) (range_with_len 0 MAX_MODULES)) }
@@ -90,7 +92,7 @@ pub fn parts(
     requires placed { All (λ j. IsMapOf j.object.segments (map_at places.now.maps j.number)) joining.now }
     requires count { length values.now ≡ length joining.now }
     requires fit { AllZip (λ j v. FitSites j.object v) joining.now values.now }
-    ensures { IfOk result (λ parts. (l : Linkage) → IsValues l joining.now values.now → AllZip (AreImages l (placing_of places.now) (map_at places.now.maps)) joining.now parts) }
+    ensures { IfOk result (λ parts. (l : Linkage) → IsValues l joining.now values.now → AllZip (AreImages l (placing_in places.now) (map_at places.now.maps)) joining.now parts) }
 {
     let mut parts = Seq::new(alloc);
     for i in 0..joining.len() {

@@ -2,28 +2,29 @@
 
 ghost use Rattle.std.specs.Prelude.{◌≡◌, ◌≤◌, length, All, IfOk, IfErr};
 ghost use Rattle.symbol_scope.specs.declared.tables.TheConstants.{MAX_MODULES};
-ghost use Rattle.load_image.specs.Bounds.{EndsBelow};
-ghost use Rattle.load_plan.specs.Layout.{IsRoomy, IsLaid, IsUnlaid};
-ghost use Rattle.load_plan.specs.Linking.{AreNew};
+ghost use Rattle.load_map.specs.parts.IsLoadMap.{EndsBelow};
+ghost use Rattle.load_plan.specs.parts.Layout.{IsRoomy, IsLaid, IsUnlaid};
+ghost use Rattle.load_plan.specs.parts.LinkedLoad.{AreNew};
 
 use crate::filling::slots_for;
 use crate::linking::Linked;
 use crate::maps::maps_with;
 use crate::placing::{Placing, place};
 use func_desc::DescPool;
-use load_image::{LoadMap, placed_pairs};
-use load_model::{LoadErr, MemPlan, Process};
-use load_state::{Descriptors, Maps};
+use load_image::placed_pairs;
+use load_model::{LoadErr, MapEntries, Maps, MemPlan, SymbolicProcess};
+use load_state::Descriptors;
 use placement::{Addrs, Items, Ranges};
 use std::alloc::Global;
 
 /// What is loaded when a load is planned.
 #[derive(Debug, Drop)]
 pub struct Standing<'a> {
+    pub alloc: Global,
     pub plan: &'a MemPlan,
-    pub process: &'a Process,
+    pub process: &'a SymbolicProcess,
     /// The load map of each module, by number.
-    pub maps: &'a [LoadMap],
+    pub maps: &'a [MapEntries],
 }
 
 /// Where the new modules of a load go, and which descriptors they bring.
@@ -42,7 +43,6 @@ pub struct Layout {
 /// A slot for each function that needs one, or DescriptorsFull, and then an address for each new segment, or NoRoom.
 /// The ranges that are held stay, and there is room for more.
 pub fn lay_out(
-    alloc: Global,
     standing: &Standing,
     ranges: &mut Ranges,
     pool: &DescPool,
@@ -57,6 +57,7 @@ pub fn lay_out(
     ensures error { IfErr result (IsUnlaid standing.entry.now ranges.old pool.now linked.entry.now) }
     ensures stays { ranges.new ≡ record ranges.old { room = ranges.new.room } }
 {
+    let alloc = standing.alloc;
     let joining = linked.joining.as_slice();
     let given = slots_for(alloc, pool, linked.wanted.as_slice())?;
     let Placing { items, addrs } = place(alloc, standing.plan.places.as_slice(), ranges, joining)?;

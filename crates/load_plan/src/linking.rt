@@ -9,20 +9,19 @@ ghost use Rattle.load_model.specs.Walk.{IsWalk, IsWalkRefused, number_among};
 ghost use Rattle.load_model.specs.Descriptors as spec;
 ghost use Rattle.load_model.specs.Sites.{first_refusal};
 ghost use Rattle.std.specs.FinMap.{get};
-ghost use Rattle.load_tables.specs.Tables.{AreTables, HasTables};
-ghost use Rattle.load_sites.specs.Linker.{IsReady, linkage};
-ghost use Rattle.load_sites.specs.Answers.{Tells};
-ghost use Rattle.load_sites.specs.Values.{IsValues};
-ghost use Rattle.load_plan.specs.Linking.{AreNew, HasFewSymbols, IsLinked, IsUnlinked};
+ghost use Rattle.load_plan.specs.parts.Tables.{AreTables, HasTables};
+ghost use Rattle.load_sites.specs.parts.Linker.{IsReady, linkage};
+ghost use Rattle.load_sites.specs.parts.Answers.{Tells};
+ghost use Rattle.load_sites.specs.parts.Values.{IsValues};
+ghost use Rattle.load_plan.specs.parts.LinkedLoad.{AreNew, HasFewSymbols, IsLinked, IsUnlinked};
 
+use crate::tables::{add_all, drop_others};
 use elf_model::Func;
 use fd_base::{Name, Numbers, Seq, Store};
 use func_desc::DescPool;
-use load_model::{Joining, LoadErr, Process};
-use load_process::scope_with;
+use load_model::{Joining, LoadErr, SymbolicProcess};
+use load_process::{Walk, scope_with, walk};
 use load_sites::{Linker, Privates, Values};
-use load_tables::{add_all, drop_others};
-use load_walk::{Walk, walk};
 use std::alloc::Global;
 use symbol_scope::Tables;
 
@@ -73,7 +72,7 @@ fn resolve(alloc: Global, linker: &Linker, pool: &DescPool) -> Result<Resolved, 
 /// The modules that a load adds, with their exported names entered.
 fn enter<S: Store>(
     alloc: Global,
-    process: &Process,
+    process: &SymbolicProcess,
     tables: &mut Tables,
     store: &mut S,
     root: &Name,
@@ -101,7 +100,7 @@ fn enter<S: Store>(
 /// scope, and a value for each site; nothing is placed. The process stays, and its modules keep their tables.
 pub fn link<S: Store>(
     alloc: Global,
-    process: &Process,
+    process: &SymbolicProcess,
     tables: &mut Tables,
     pool: &DescPool,
     store: &mut S,

@@ -3,15 +3,15 @@
 ghost use Rattle.std.specs.Prelude.{◌≡◌, ◌+◌, ◌<◌, ◌≤◌, length, drop, set, sum_by, All, IfOk, OnOk};
 ghost use Rattle.load_model.specs.declared.module.Joining.{Joining};
 ghost use Rattle.load_image.specs.Items.{load_map_of};
-ghost use Rattle.load_state.specs.Accepts.{maps_after};
+ghost use Rattle.load_state.specs.Accepted.{maps_after};
 
 use fd_base::{Memory, Seq};
-use load_image::{LoadMap, load_map};
-use load_model::Joining;
+use load_image::load_map;
+use load_model::{Joining, MapEntries};
 use std::alloc::Global;
 
 /// The same load maps in memory of their own.
-fn copied(alloc: Global, maps: &[LoadMap]) -> Result<Vec<LoadMap>, Memory>
+fn copied(alloc: Global, maps: &[MapEntries]) -> Result<Vec<MapEntries>, Memory>
     ensures { IfOk result (λ copy. copy.items ≡ maps.now) }
 {
     let mut copy = Vec::new(alloc);
@@ -22,7 +22,7 @@ fn copied(alloc: Global, maps: &[LoadMap]) -> Result<Vec<LoadMap>, Memory>
 }
 
 /// Puts the load map of a new module, whose segments lie at these addresses, into its place.
-fn enter_map(maps: &mut Vec<LoadMap>, new: &Joining, addrs: &[u32]) -> Result<(), Memory>
+fn enter_map(maps: &mut Vec<MapEntries>, new: &Joining, addrs: &[u32]) -> Result<(), Memory>
     requires number { new.now.number < length maps.old.items }
     requires count { length addrs.now ≡ length new.now.object.segments }
     ensures { OnOk result (maps.new.items ≡ set maps.old.items new.now.number (load_map_of new.now.object.segments addrs.now)) }
@@ -35,10 +35,10 @@ fn enter_map(maps: &mut Vec<LoadMap>, new: &Joining, addrs: &[u32]) -> Result<()
 /// The load maps by module number, with those of new modules, whose segments lie at these addresses in order.
 pub fn maps_with(
     alloc: Global,
-    maps: &[LoadMap],
+    maps: &[MapEntries],
     joining: &[Joining],
     addrs: &[u32],
-) -> Result<Seq<LoadMap>, Memory>
+) -> Result<Seq<MapEntries>, Memory>
     requires numbers { All (λ j. j.number < length maps.now) joining.now }
     requires count { sum_by (λ j. length j.object.segments) joining.now ≡ length addrs.now }
     ensures { IfOk result (λ after. after ≡ maps_after maps.now joining.now addrs.now) }

@@ -7,8 +7,8 @@ ghost use Rattle.placement.specs.Space.{IsOwned, IsPlaced};
 ghost use Rattle.placement.specs.declared.item.Item.{Item};
 ghost use Rattle.symbol_scope.specs.declared.tables.TheConstants.{MAX_MODULES};
 ghost use Rattle.load_model.specs.declared.module.Joining.{Joining};
-ghost use Rattle.load_state.specs.Accepts.{all_items, items_for};
-ghost use Rattle.load_plan.specs.Placing.{IsUnplaced};
+ghost use Rattle.load_state.specs.Accepted.{all_items, items_for};
+ghost use Rattle.load_plan.specs.parts.NoPlaces.{IsUnplaced};
 
 use fd_base::{Memory, Seq};
 use load_image::items;

@@ -1,20 +1,17 @@
 //! The plan of a load.
 
 ghost use Rattle.std.specs.Prelude.{◌≡◌, ◌≤◌, length, All, IfOk, IfErr, OnOk};
-ghost use Rattle.guest_mem.specs.Memory.{Memory as GuestMemory};
 ghost use Rattle.symbol_scope.specs.declared.tables.TheConstants.{MAX_MODULES};
-ghost use Rattle.load_model.specs.Explains.{Explains};
 ghost use Rattle.load_model.specs.Linkage.{linkage_with};
-ghost use Rattle.load_walk.specs.Taken.{IsTaken};
-ghost use Rattle.load_sites.specs.Values.{IsValues};
-ghost use Rattle.load_image.specs.Bounds.{EndsBelow, IsMapOf};
-ghost use Rattle.load_state.specs.Accepts.{IsPlan};
-ghost use Rattle.load_state.specs.Loaded.{map_at};
-ghost use Rattle.load_state.specs.Refused.{IsRefused};
-ghost use Rattle.load_tables.specs.Tables.{HasTables};
-ghost use Rattle.load_plan.specs.Filling.{AreFinished, placing_by};
-ghost use Rattle.load_plan.specs.Layout.{IsPlannable, loaded_by};
-ghost use Rattle.load_plan.specs.Linking.{AreNew};
+ghost use Rattle.load_process.specs.parts.TakenObjects.{IsTaken};
+ghost use Rattle.load_sites.specs.parts.Values.{IsValues};
+ghost use Rattle.load_image.specs.parts.Bounds.{IsMapOf};
+ghost use Rattle.load_map.specs.parts.IsLoadMap.{EndsBelow};
+ghost use Rattle.load_state.specs.Accepted.{AreFinished, placing_by};
+ghost use Rattle.load_map.specs.Maps.{map_at};
+ghost use Rattle.load_plan.specs.parts.Tables.{HasTables};
+ghost use Rattle.load_plan.specs.parts.Layout.{IsErrorOver, IsPlannable, IsPlanOver};
+ghost use Rattle.load_plan.specs.parts.LinkedLoad.{AreNew};
 
 use crate::filling::{gots, parts};
 use crate::layout::{Layout, Standing, lay_out};
@@ -26,12 +23,11 @@ use load_model::LoadErr;
 use load_process::global_after;
 use load_state::{GroupPlan, Parts};
 use placement::Ranges;
-use std::alloc::{AllocError, Global};
+use std::alloc::AllocError;
 use symbol_scope::Tables;
 
 /// The finished bytes of new modules, which are linked and laid out.
 fn finished(
-    alloc: Global,
     standing: &Standing,
     pool: &DescPool,
     linked: &Linked,
@@ -46,6 +42,7 @@ fn finished(
         (placing_by standing.now.process.now pool.now.addrs linked.entry.now.joining layout.entry.now.maps layout.entry.now.adopted layout.entry.now.given)
         linked.entry.now.joining layout.entry.now.maps) }
 {
+    let alloc = standing.alloc;
     let joining = linked.joining.as_slice();
     let gots = gots(alloc, standing.process, joining)?;
     let adopted = layout.adopted.as_slice();
@@ -65,36 +62,50 @@ fn reserve(pool: &mut DescPool, n: usize) -> Result<(), Memory>
     }
 }
 
-/// Plans the load of the module of this name: links it and all that it needs, lays it out, and makes the bytes of each
-/// new segment. With `asked` the global list is to gain the new modules. Nothing is loaded: the ranges and the
-/// descriptors stay, with room for what the plan adds, and so do the tables of live modules.
+/// Which load is asked for.
+#[derive(Debug, Drop)]
+pub struct Request<'a> {
+    /// The name of the module.
+    pub root: &'a Name,
+    /// Whether the global list is to gain the new modules.
+    pub global: bool,
+}
+
+/// Plans a load: links the module that is asked for and all that it needs, lays it out, and makes the bytes of each new
+/// segment. Nothing is loaded: the ranges and the descriptors stay, with room for what the plan adds, and so do the tables
+/// of live modules.
 pub fn plan_group<S: Store>(
-    alloc: Global,
     standing: &Standing,
     ranges: &mut Ranges,
     tables: &mut Tables,
     pool: &mut DescPool,
     store: &mut S,
-    root: &Name,
-    asked: bool,
+    request: &Request,
 ) -> Result<GroupPlan, LoadErr>
     requires standing { IsPlannable standing.now ranges.old tables.old pool.old }
-    ensures plan { IfOk result (λ p. (memory : GuestMemory) → IsPlan (loaded_by standing.now ranges.old pool.old memory) (S.files store.old) root.now asked p) }
+    ensures plan { IfOk result (IsPlanOver standing.now ranges.old pool.old
+        (S.files store.old) request.now.root.now request.now.global) }
     ensures taken { IfOk result (λ p. All (λ j. IsTaken j.object) p.joining) }
     ensures ranges_room { IfOk result (λ p. length p.items ≤ ranges.new.room) }
     ensures pool_room { IfOk result (λ p. length p.adopted ≤ pool.new.room) }
-    ensures error { IfErr result (λ e. (memory : GuestMemory) → Explains (IsRefused (loaded_by standing.now ranges.old pool.old memory) (S.files store.old) root.now)
-        (S.faults store.old) (S.faults store.new) e) }
+    ensures error { IfErr result (IsErrorOver standing.now ranges.old pool.old
+        (S.files store.old) request.now.root.now (S.faults store.old) (S.faults store.new)) }
     ensures ranges { ranges.new ≡ record ranges.old { room = ranges.new.room } }
     ensures pool { pool.new ≡ record pool.old { room = pool.new.room } }
     ensures tables { HasTables standing.now.process.now tables.new }
     ensures files { S.files store.new ≡ S.files store.old }
     ensures count { S.faults store.old ≤ S.faults store.new }
 {
-    let linked = link(alloc, standing.process, tables, pool, store, root)?;
-    let layout = lay_out(alloc, standing, ranges, pool, &linked)?;
-    let parts = finished(alloc, standing, pool, &linked, &layout)?;
-    let global = global_after(alloc, standing.process, asked, linked.scope.as_slice())?;
+    let alloc = standing.alloc;
+    let linked = link(alloc, standing.process, tables, pool, store, request.root)?;
+    let layout = lay_out(standing, ranges, pool, &linked)?;
+    let parts = finished(standing, pool, &linked, &layout)?;
+    let global = global_after(
+        alloc,
+        standing.process,
+        request.global,
+        linked.scope.as_slice(),
+    )?;
     reserve(pool, layout.adopted.len())?;
     Ok(GroupPlan {
         root: linked.root,

@@ -10,23 +10,25 @@ use Rattle.std.proofs.lemmas.Bool.Decides.{Decides-eqb}
 use Rattle.std.proofs.lemmas.Iterator.Adapters.{position_from-zero}
 use Rattle.std.proofs.lemmas.List.{append-nil, get_or_append_left, get_or-append-add}
 use Rattle.std.proofs.lemmas.List.Elements.{All-contains, All-weaker}
+use Rattle.fd_base.proofs.Options.{one_value, some_of, of_some_and, some_and}
 use Rattle.symbol_scope.specs.Closure.{has, with_new}
 use Rattle.symbol_scope.proofs.Growing.{has_contained, contained_has, kept, gained, once_more, All-with_new}
 use Rattle.load_model.specs.declared.module.Group.{Group}
 use Rattle.load_model.specs.declared.module.Joining.{Joining}
 use Rattle.load_model.specs.declared.module.Live.{Live}
-use Rattle.load_model.specs.declared.module.Process.{Process}
+use Rattle.load_model.specs.declared.module.SymbolicProcess.{SymbolicProcess}
 use Rattle.load_model.specs.Joined.{is_empty, live_from, modules_after, group_of, groups_after, global_after}
 use Rattle.load_model.specs.Linkage.{joining_at, closure_of}
 use Rattle.load_model.specs.Process.{live_at, is_live, is_live_named, number_of, group_at, group_scope, object_at}
 use Rattle.load_model.specs.Validity.{IsMember, IsGroup, IsValid}
 use Rattle.load_model.specs.Walk.{joining_named, number_among, needed_by}
-use Rattle.load_process.specs.Load.{scope_after, loaded}
-use Rattle.load_process.proofs.Lists.{some_and, of_some_and, all_contained, in_filter_map, to_filter_map, one_of, find_some, once-filter_map}
-use Rattle.load_process.proofs.Places.{at_place}
-use Rattle.load_process.proofs.Facts.{Facts, at_number, number_found, name_found}
-use Rattle.load_process.proofs.Kept.{some_one}
-use Rattle.load_process.proofs.After.{new_after, stays_after, came_from, group_new, group_left, group_came_from, scope_new, scope_old}
+use Rattle.load_process.specs.parts.LoadedProcess.{scope_after, loaded}
+use Rattle.fd_base.proofs.Finding.{find_some}
+use Rattle.fd_base.proofs.Members.{filter_map_in, in_filter_map, all_contained}
+use Rattle.fd_base.proofs.Lists.{once-filter_map, one_of}
+use Rattle.load_process.proofs.NumberedPlaces.{at_place}
+use Rattle.load_process.proofs.WalkFacts.{Facts, at_number, number_found, name_found}
+use Rattle.load_process.proofs.ModulesAfter.{new_after, stays_after, came_from, group_new, group_left, group_came_from, scope_new, scope_old}
 
 -- ---- numbers of names
 
@@ -52,7 +54,7 @@ named_from name k n (place ∷ places) e =
     named (Some live) t = (live, refl, (bytes_eq-Decides live.name name).0 t)
 
 -- a number of a name is that of a live module of the name
-pub number_named : (p : Process) (name : List ℕ) (n : ℕ) → number_of p name ≡ Some n → (live : Live) × (live_at p n ≡ Some live) × (live.name ≡ name)
+pub number_named : (p : SymbolicProcess) (name : List ℕ) (n : ℕ) → number_of p name ≡ Some n → (live : Live) × (live_at p n ≡ Some live) × (live.name ≡ name)
 number_named p name n e =
     let from = named_from name 0 n p.modules (sym (position_from-zero (is_live_named name) p.modules) ∙ e) in
     let same : n - 0 ≡ n = omega arith in
@@ -70,19 +72,16 @@ found_from name k (suc m) live (place ∷ places) e same =
       | false ↦ rest
     ]
 
-abbrev pub HasNamesOnce : Process → Type 0
+abbrev pub HasNamesOnce : SymbolicProcess → Type 0
 HasNamesOnce p = (m n : ℕ) (a b : Live) → live_at p m ≡ Some a → live_at p n ≡ Some b → a.name ≡ b.name → m ≡ n
 
 -- where no two live modules have one name, each is found by its own
-pub named_number : (p : Process) (name : List ℕ) (m : ℕ) (live : Live) → HasNamesOnce p → live_at p m ≡ Some live → live.name ≡ name → number_of p name ≡ Some m
+pub named_number : (p : SymbolicProcess) (name : List ℕ) (m : ℕ) (live : Live) → HasNamesOnce p → live_at p m ≡ Some live → live.name ≡ name → number_of p name ≡ Some m
 named_number p name m live once e same =
     let there = found_from name 0 m live p.modules e same in
     let found : number_of p name ≡ Some there.0 = position_from-zero (is_live_named name) p.modules ∙ there.1 in
     let is = number_named p name there.0 found in
     found ∙ ap Some (once there.0 m is.0 live is.1 e (is.2 ∙ sym same))
-
-one_value : {X : Type 0} (o : Option X) (x y : X) → o ≡ Some x → o ≡ Some y → x ≡ y
-one_value o x y e f = cc
 
 -- ---- members of a scope
 
@@ -92,14 +91,14 @@ in_scope_old seen more n c = contained_has nat_eq Decides-eqb (with_new nat_eq s
 pub in_scope_new : (seen more : List ℕ) (n : ℕ) → Contains more n → Contains (with_new nat_eq seen more) n
 in_scope_new seen more n c = contained_has nat_eq Decides-eqb (with_new nat_eq seen more) n (gained nat_eq Decides-eqb seen more n (has_contained nat_eq Decides-eqb more n c))
 
-module _ (p : Process) (joining : List Joining) (names : List (List ℕ)) (facts : Facts p joining names) (valid : IsValid p) (asked : Bool) where
+module _ (p : SymbolicProcess) (joining : List Joining) (names : List (List ℕ)) (facts : Facts p joining names) (valid : IsValid p) (asked : Bool) where
   abbrev scope : List ℕ
   scope = scope_after p joining names
 
   abbrev global : List ℕ
   global = global_after p asked scope
 
-  abbrev q : Process
+  abbrev q : SymbolicProcess
   q = loaded p joining names asked
 
   abbrev came : (m : ℕ) (live : Live) → live_at q m ≡ Some live → ((j : Joining) × (joining_at joining m ≡ Some j) × (live ≡ live_from (group_of joining) j)) ⊎ (live_at p m ≡ Some live)
@@ -163,10 +162,10 @@ module _ (p : Process) (joining : List Joining) (names : List (List ℕ)) (facts
   name_after name c =
       let among = among_all name c in
       let is = among_after name among.0 among.1 in
-      (among.0, named_number q name among.0 is.0 names_once is.1 is.2, in_scope_new p.global (closure_of p joining names) among.0 (to_filter_map (number_among p joining) names name among.0 c among.1))
+      (among.0, named_number q name among.0 is.0 names_once is.1 is.2, in_scope_new p.global (closure_of p joining names) among.0 (filter_map_in (number_among p joining) names name among.0 c among.1))
 
   still_live : (n : ℕ) → is_live p n ≡ true → is_live q n ≡ true
-  still_live n e = let live = some_one (live_at p n) e in ap is_some (stays_after p joining names facts valid scope global n live.0 live.1)
+  still_live n e = let live = some_of (live_at p n) e in ap is_some (stays_after p joining names facts valid scope global n live.0 live.1)
 
   closure_live : All (λ n. is_live q n ≡ true) (closure_of p joining names)
   closure_live = all_contained (λ n. is_live q n ≡ true) (closure_of p joining names)
@@ -277,7 +276,7 @@ nothing_in (Some live ∷ places) zero e = absurd (false≢true e)
 nothing_in (None ∷ places) (suc m) e = nothing_in places m e
 nothing_in (Some live ∷ places) (suc m) e = absurd (false≢true e)
 
-none_live : (p : Process) (ns : List ℕ) → is_empty p ≡ true → All (λ n. is_live p n ≡ true) ns → ns ≡ []
+none_live : (p : SymbolicProcess) (ns : List ℕ) → is_empty p ≡ true → All (λ n. is_live p n ≡ true) ns → ns ≡ []
 none_live p [] e all = refl
 none_live p (n ∷ ns) e all = absurd (false≢true (sym (ap is_some (nothing_in p.modules n e)) ∙ all zero n (omega arith)))
 
@@ -299,7 +298,7 @@ with_all seen (x ∷ xs) once =
     ap (λ b. with_new nat_eq (if b then seen else seen ++ x ∷ []) xs) (new_one seen xs x once)
     ∙ with_all (seen ++ x ∷ []) xs (subst (AllPairs (λ m n. m ≢ n)) (sym joined) once) ∙ joined
 
-pub first_scope : (p : Process) (joining : List Joining) (names : List (List ℕ)) → Facts p joining names → IsValid p → is_empty p ≡ true → scope_after p joining names ≡ closure_of p joining names
+pub first_scope : (p : SymbolicProcess) (joining : List Joining) (names : List (List ℕ)) → Facts p joining names → IsValid p → is_empty p ≡ true → scope_after p joining names ≡ closure_of p joining names
 first_scope p joining names facts valid empty =
     ap (λ l. with_new nat_eq l (closure_of p joining names)) (none_live p p.global empty valid.global')
     ∙ with_all [] (closure_of p joining names) (closure_once p joining names facts valid false)

@@ -6,7 +6,7 @@ ghost use Rattle.load_model.specs.Joined.{is_empty, live_from, modules_after, gr
 ghost use Rattle.load_model.specs.Validity.{IsValid};
 
 use fd_base::{Memory, Numbers, Seq};
-use load_model::{Group, Groups, Joining, Live, MAX_MODULES, Modules, Process};
+use load_model::{Group, Groups, Joining, Live, MAX_MODULES, Modules, SymbolicProcess};
 use std::alloc::Global;
 use std::mem;
 
@@ -22,12 +22,12 @@ fn places<T: Drop>(alloc: Global) -> Result<Seq<Option<T>>, Memory>
 }
 
 /// A process without modules.
-pub fn new_process(alloc: Global) -> Result<Process, Memory>
+pub fn new_process(alloc: Global) -> Result<SymbolicProcess, Memory>
     ensures valid { IfOk result (λ p. IsValid p) }
     ensures empty { IfOk result (λ p. is_empty p ≡ true) }
     ensures global { IfOk result (λ p. p.global ≡ []) }
 {
-    Ok(Process {
+    Ok(SymbolicProcess {
         modules: places(alloc)?,
         groups: places(alloc)?,
         global: Seq::new(alloc),
@@ -83,7 +83,7 @@ fn put_group(groups: &mut Vec<Option<Group>>, joining: &[Joining], scope: Number
 
 /// Puts new modules into the places of their numbers as one group of this scope, and sets the global list. Where a
 /// place has a module already, that one is dropped. Takes no memory.
-pub fn join(process: &mut Process, joining: Seq<Joining>, scope: Numbers, global: Numbers)
+pub fn join(process: &mut SymbolicProcess, joining: Seq<Joining>, scope: Numbers, global: Numbers)
     requires modules { length process.old.modules ≡ MAX_MODULES }
     requires groups { length process.old.groups ≡ MAX_MODULES }
     requires numbers { All (λ j. j.number < MAX_MODULES) joining }

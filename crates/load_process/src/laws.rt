@@ -1,6 +1,6 @@
 //! What holds of loads themselves. A call of one does nothing.
 
-ghost use Rattle.load_process.specs.Laws.{LoadsKeepValid, LoadsJoin, LoadsLeaveScopes, NumbersAreFree, EmptyScope};
+ghost use Rattle.load_process.specs.parts.JoinLaws.{LoadsKeepValid, LoadsJoin, LoadsLeaveScopes, NumbersAreFree, EmptyScope};
 
 /// The process after a load is valid.
 pub fn loads_keep_valid()

@@ -6,7 +6,7 @@ ghost use Rattle.load_model.specs.Joined.{is_empty, global_after};
 ghost use Rattle.load_model.specs.Linkage.{scope_with};
 
 use fd_base::{Memory, Numbers, Seq};
-use load_model::Process;
+use load_model::SymbolicProcess;
 use std::alloc::Global;
 
 fn has(numbers: &[u32], number: u32) -> bool
@@ -16,7 +16,11 @@ fn has(numbers: &[u32], number: u32) -> bool
 }
 
 /// The modules of the global list, and then the other ones of these members, each once.
-pub fn scope_with(alloc: Global, process: &Process, members: &[u32]) -> Result<Numbers, Memory>
+pub fn scope_with(
+    alloc: Global,
+    process: &SymbolicProcess,
+    members: &[u32],
+) -> Result<Numbers, Memory>
     ensures { IfOk result (λ scope. scope ≡ scope_with process.now members.now) }
 {
     let mut scope = Seq::from_slice(alloc, process.global.as_slice())?;
@@ -28,7 +32,7 @@ pub fn scope_with(alloc: Global, process: &Process, members: &[u32]) -> Result<N
     Ok(scope)
 }
 
-fn is_empty(process: &Process) -> bool
+fn is_empty(process: &SymbolicProcess) -> bool
     ensures { result ≡ is_empty process.now }
 {
     process
@@ -42,7 +46,7 @@ fn is_empty(process: &Process) -> bool
 /// the same one.
 pub fn global_after(
     alloc: Global,
-    process: &Process,
+    process: &SymbolicProcess,
     asked: bool,
     scope: &[u32],
 ) -> Result<Numbers, Memory>

@@ -1,9 +1,9 @@
-pub mod Agreeing
-pub mod Described
-pub mod Ending
-pub mod Leading
-pub mod Looking
-pub mod Same
-pub mod Telling
-pub mod Valued
+pub mod DescriptorValues
+pub mod LookUps
+pub mod LookUpsAgree
+pub mod SameFunctions
+pub mod SiteEnds
+pub mod SiteValues
+pub mod SlotsLead
 pub mod TestObjects
+pub mod ToldErrors

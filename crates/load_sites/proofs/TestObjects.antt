@@ -6,6 +6,7 @@ use Rattle.std.specs.Option.{option_or}
 use Rattle.std.proofs.lemmas.Bool.{eqb-true, eqb-false}
 use Rattle.std.proofs.lemmas.List.{take_all}
 use Rattle.std.proofs.lemmas.List.Kept.{AllPairs-cons}
+use Rattle.fd_base.proofs.Options.{or_none}
 use Rattle.elf_model.specs.declared.constants.TheConstants.{R_ARM_FUNCDESC_VALUE}
 use Rattle.elf_model.specs.declared.object.Object.{Object}
 use Rattle.elf_model.specs.declared.object.Rel.{Rel}
@@ -14,14 +15,14 @@ use Rattle.elf_model.specs.declared.table.Site.{Site}
 use Rattle.elf_model.specs.Places.{is_writable_in, site_of_rel, filled_ranges}
 use Rattle.elf_model.specs.Relocations.{site_size, word_site, got_header}
 use Rattle.symbol_scope.specs.declared.table.Table.{Table}
-use Rattle.symbol_scope.specs.Exports.{ExportMap, exports_of}
-use Rattle.symbol_scope.specs.Needs.{table_at}
-use Rattle.symbol_scope.specs.Slots.{Slots}
-use Rattle.symbol_scope.specs.Table.{table_of}
+use Rattle.symbol_scope.specs.parts.Exports.{ExportMap, exports_of}
+use Rattle.symbol_scope.specs.parts.Needs.{table_at}
+use Rattle.symbol_scope.specs.parts.Slots.{Slots}
+use Rattle.symbol_scope.specs.parts.Table.{table_of}
 use Rattle.load_model.specs.declared.module.Joining.{Joining}
 use Rattle.load_model.specs.Linkage.{joining_at}
 use Rattle.load_sites.specs.declared.linker.Linker.{Linker}
-use Rattle.load_sites.specs.Linker.{linkage, IsReady}
+use Rattle.load_sites.specs.parts.Linker.{linkage, IsReady}
 use Rattle.elf_model.proofs.Examples.{word_aligned}
 use Rattle.elf_model.specs.Sound.{IsSound, IsSized, SegmentsApart, RangesApart, IsWhole, IsInPlace}
 
@@ -166,10 +167,6 @@ one_table t rest new lt before m = by (new.number == m) refl
     by false is = ap exported (get_set_other t new.number m (Some (table_of new.name new.object)) (eqb-false new.number m is)) ∙ before m
 
 -- ---- linkers
-
-or_none : {X : Type 0} (x : Option X) → option_or x None ≡ x
-or_none None = refl
-or_none (Some x) = refl
 
 twice : {X Y Z : Type 0} (f : X → Y) (g : Y → Z) (x : Option X) → option_map (λ y. g (f y)) x ≡ option_map g (option_map f x)
 twice f g None = refl

@@ -1,12 +1,12 @@
 //! What symbols mean.
 
-ghost use Rattle.std.specs.Prelude.{◌≡◌, ◌≤◌, ◌^◌, [], length, unwrap_or, Some, option_and_then, ◌==◌, ◌<◌, IfSome};
+ghost use Rattle.std.specs.Prelude.{◌≡◌, ◌≤◌, ◌^◌, [], length, unwrap_or, Some, ◌==◌, ◌<◌, IfSome};
 ghost use Rattle.std.specs.Option.{option_copied};
 ghost use Rattle.symbol_scope.specs.Definition.{first_definition};
 ghost use Rattle.symbol_scope.specs.Exported as exported;
-ghost use Rattle.symbol_scope.specs.Needs.{export_in};
+ghost use Rattle.symbol_scope.specs.parts.Needs.{export_in};
 ghost use Rattle.load_model.specs.Definition as spec;
-ghost use Rattle.load_sites.specs.Linker.{linkage, IsReady};
+ghost use Rattle.load_sites.specs.parts.Linker.{linkage, IsReady};
 
 use crate::linker::Linker;
 use elf_model::constants::{STB_LOCAL, STB_WEAK, STT_SECTION, STV_DEFAULT};
@@ -86,7 +86,7 @@ impl<'a> Linker<'a> {
     }
 
     /// What a name means in a module.
-    #[tactic(auto, using(crate::proofs::Looking::other_lookup))]
+    #[tactic(auto, using(crate::proofs::LookUps::other_lookup))]
     fn lookup(&self, m: u32, o: &Object, name: &Name) -> Option<Found>
         requires { IsReady self.now }
         ensures { result ≡ spec.lookup (linkage self.now) m o.entry.now (Some name.now) }

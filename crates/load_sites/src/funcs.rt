@@ -1,10 +1,10 @@
 //! Functions, each once.
 
-ghost use Rattle.std.specs.Prelude.{◌≡◌, [], map, take, IfOk, OnOk};
+ghost use Rattle.std.specs.Prelude.{◌≡◌, [], map, IfOk, OnOk};
 ghost use Rattle.elf_model.specs.declared.func.Func.{Func};
 ghost use Rattle.symbol_scope.specs.Closure.{has, with_one};
 ghost use Rattle.load_model.specs.Descriptors.{is_same_func};
-ghost use Rattle.load_sites.specs.Funcs.{func_of};
+ghost use Rattle.load_sites.specs.parts.Funcs.{func_of};
 
 use elf_model::Func;
 use fd_base::{Memory, Seq};
@@ -21,7 +21,7 @@ pub(crate) struct Funcs {
 impl Model for Funcs {
     ghost use Rattle.std.specs.Prelude.{List, map};
     ghost use Rattle.elf_model.specs.declared.func.Func.{Func};
-    ghost use Rattle.load_sites.specs.Funcs.{func_of};
+    ghost use Rattle.load_sites.specs.parts.Funcs.{func_of};
 
     ghost Value = { List Func };
 

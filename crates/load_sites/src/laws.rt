@@ -1,6 +1,6 @@
 //! What holds of symbols and sites themselves. A call of one does nothing.
 
-ghost use Rattle.load_sites.specs.Laws.{OwnSymbolsStayHome, LookUpsAgree, SlotsLeadToCode, PlacedValuesHavePlaces, SitesHaveWords};
+ghost use Rattle.load_sites.specs.parts.Laws.{OwnSymbolsStayHome, LookUpsAgree, SlotsLeadToCode, PlacedValuesHavePlaces, SitesHaveWords};
 
 /// A symbol that no other module's can replace means itself, whatever modules there are.
 pub fn own_symbols_stay_home()

@@ -3,9 +3,9 @@
 
 mod definition;
 mod funcs;
+mod joining;
 mod laws;
 mod linker;
-mod live;
 mod places;
 mod private;
 mod sites;
@@ -18,7 +18,7 @@ pub use laws::{
 };
 pub use linker::Linker;
 pub use private::Privates;
-pub use values::{Values, sites_of};
+pub use values::Values;
 
 #[cfg(test)]
 mod tests;

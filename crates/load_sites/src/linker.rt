@@ -2,19 +2,19 @@
 
 ghost use Rattle.std.specs.Prelude.{◌≡◌, [], unwrap_or};
 ghost use Rattle.std.specs.Option.{option_copied};
-ghost use Rattle.load_sites.specs.Linker.{linkage};
+ghost use Rattle.load_sites.specs.parts.Linker.{linkage};
 
-use crate::live::{group_scope, joining_at, object_at};
+use crate::joining::joining_at;
 use elf_model::Object;
 use fd_base::Numbers;
-use load_model::{Joining, Process};
+use load_model::{Joining, SymbolicProcess};
 use symbol_scope::Tables;
 
 /// Live modules and those that a load adds, and the tables in which names are looked up.
 #[derive(Clone, Copy, Debug, Drop)]
 pub struct Linker<'a> {
     /// The live modules.
-    pub process: &'a Process,
+    pub process: &'a SymbolicProcess,
     /// The modules that the load adds.
     pub joining: &'a [Joining],
     /// The numbers of the modules in which the symbols of each new module are looked up, in this order.
@@ -25,24 +25,24 @@ pub struct Linker<'a> {
 
 impl<'a> Linker<'a> {
     /// The object of the module of this number, new or live.
-    #[tactic(auto, unfolding(crate::specs::Linker::linkage))]
+    #[tactic(auto, unfolding(crate::specs::parts::Linker::linkage))]
     pub fn object(&self, m: u32) -> Option<&'a Object>
         ensures { option_copied result ≡ (linkage self.now).objects m }
     {
         match joining_at(self.joining, m) {
             Some(new) => Some(&new.object),
-            None => object_at(self.process, m),
+            None => self.process.object_at(m),
         }
     }
 
     /// The scope of the module of this number. None is an empty one.
-    #[tactic(auto, unfolding(crate::specs::Linker::linkage))]
+    #[tactic(auto, unfolding(crate::specs::parts::Linker::linkage))]
     pub(crate) fn scope(&self, m: u32) -> Option<&'a Numbers>
         ensures { unwrap_or (option_copied result) [] ≡ (linkage self.now).scopes m }
     {
         match joining_at(self.joining, m) {
             Some(_) => Some(self.scope),
-            None => group_scope(self.process, m),
+            None => self.process.group_scope(m),
         }
     }
 }

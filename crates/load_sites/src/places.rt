@@ -3,7 +3,7 @@
 ghost use Rattle.std.specs.Prelude.{◌≡◌, ◌||◌};
 ghost use Rattle.elf_model.specs.Places.{is_held_in};
 ghost use Rattle.load_model.specs.Sites as spec;
-ghost use Rattle.load_sites.specs.Linker.{linkage};
+ghost use Rattle.load_sites.specs.parts.Linker.{linkage};
 
 use crate::linker::Linker;
 use elf_model::{Func, Place, Segment, Symbol, is_executable_in};

@@ -3,9 +3,9 @@
 ghost use Rattle.std.specs.Prelude.{◌≡◌, ◌≤◌, ◌++◌, length, option_to_list, Ok, IfOk, OnOk};
 ghost use Rattle.load_model.specs.Descriptors as spec;
 ghost use Rattle.load_model.specs.Linkage.{members_of};
-ghost use Rattle.load_sites.specs.Descriptors.{private_by, privates_by};
-ghost use Rattle.load_sites.specs.Linker.{linkage};
-ghost use Rattle.load_sites.specs.Values.{AreValuesOf, IsValues};
+ghost use Rattle.load_sites.specs.parts.Descriptors.{private_by, privates_by};
+ghost use Rattle.load_sites.specs.parts.Linker.{linkage};
+ghost use Rattle.load_sites.specs.parts.Values.{AreValuesOf, IsValues};
 
 use crate::definition::is_own;
 use crate::linker::Linker;

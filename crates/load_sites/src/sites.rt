@@ -3,9 +3,9 @@
 ghost use Rattle.std.specs.Prelude.{◌≡◌, ◌+◌, ◌^◌, ◌≤◌, IfOk, IfErr};
 ghost use Rattle.load_model.specs.Definition.{name_at};
 ghost use Rattle.load_model.specs.Sites as spec;
-ghost use Rattle.load_sites.specs.Answers.{Tells};
-ghost use Rattle.load_sites.specs.Linker.{linkage, IsReady};
-ghost use Rattle.load_sites.specs.Sites.{own_function};
+ghost use Rattle.load_sites.specs.parts.Answers.{Tells};
+ghost use Rattle.load_sites.specs.parts.Linker.{linkage, IsReady};
+ghost use Rattle.load_sites.specs.parts.Sites.{own_function};
 
 use crate::linker::Linker;
 use elf_model::constants::{R_ARM_FUNCDESC, R_ARM_FUNCDESC_VALUE, R_ARM_RELATIVE, STT_SECTION};
@@ -218,7 +218,7 @@ impl<'a> Linker<'a> {
 
     /// What loading writes at a site `r` of module `m`, whose object is `o`. The refusals are `Unresolved`,
     /// `NotCode` and `BadAddress`.
-    #[tactic(auto, using(crate::proofs::Telling::told), unfolding(load_model::specs::Sites::site_value))]
+    #[tactic(auto, using(crate::proofs::ToldErrors::told), unfolding(load_model::specs::Sites::site_value))]
     pub fn site_value(
         &self,
         alloc: Global,

@@ -2,10 +2,10 @@
 
 ghost use Rattle.std.specs.Prelude.{◌≡◌, ◌≤◌, ◌<◌, ◌^◌, ℕ, [], length, All, IfOk, OnOk, option_map};
 ghost use Rattle.elf_model.specs.Sound.{IsSound};
-ghost use Rattle.symbol_scope.specs.Exports.{exports_of};
-ghost use Rattle.symbol_scope.specs.Needs.{table_at};
+ghost use Rattle.symbol_scope.specs.parts.Exports.{exports_of};
+ghost use Rattle.symbol_scope.specs.parts.Needs.{table_at};
 ghost use Rattle.load_model.specs.Linkage.{joining_at};
-ghost use Rattle.load_sites.specs.Linker.{IsReady};
+ghost use Rattle.load_sites.specs.parts.Linker.{IsReady};
 
 use crate::Linker;
 use elf_model::constants::{
@@ -15,7 +15,7 @@ use elf_model::constants::{
 use elf_model::{Func, Inits, Kind, Object, Place, Rel, Segment, Symbol};
 use fd_base::{Bytes, Memory, Name, Numbers, Seq};
 use func_desc::DescPool;
-use load_model::{Definition, Joining, LoadErr, LoadRefusal, Process, SiteValue, Value};
+use load_model::{Definition, Joining, LoadErr, LoadRefusal, SiteValue, SymbolicProcess, Value};
 use std::alloc::Global;
 use std::process::Abort;
 use std::test::Fail;
@@ -181,7 +181,7 @@ fn tables_of(rt: &impl Abort, alloc: Global, joining: &[Joining]) -> Result<Tabl
 }
 
 fn linker_of<'a>(
-    process: &'a Process,
+    process: &'a SymbolicProcess,
     joining: &'a [Joining],
     scope: &'a Numbers,
     tables: &'a Tables,
@@ -201,10 +201,10 @@ fn linker_of<'a>(
     }
 }
 
-fn no_process(alloc: Global) -> Process
+fn no_process(alloc: Global) -> SymbolicProcess
     ensures { result.modules ≡ [] }
 {
-    Process {
+    SymbolicProcess {
         modules: Seq::new(alloc),
         groups: Seq::new(alloc),
         global: Seq::new(alloc),
@@ -315,9 +315,7 @@ const HIDDEN_FUNC: (u8, u8, u8) = (GLOBAL, STT_FUNC, STV_HIDDEN);
 
 const SECTION: (u8, u8, u8) = (LOCAL, STT_SECTION, STV_DEFAULT);
 
-#[test]
-fn first_definition_wins(rt: HostRuntime) -> Result<(), Fail> {
-    let alloc = rt.alloc();
+fn first_definition_wins(rt: &impl Abort, alloc: Global) -> Result<(), Fail> {
     let rows: [Row; 4] = [
         (false, &[(b"foo", FUNC, Place::Undefined, 0)], [FILLER; 4]),
         (false, &[(b"foo", WEAK_FUNC, HERE, 0x300)], [FILLER; 4]),
@@ -325,7 +323,7 @@ fn first_definition_wins(rt: HostRuntime) -> Result<(), Fail> {
         (false, &[(b"foo", FUNC, HERE, 0x380)], [FILLER; 4]),
     ];
     let joining = modules(alloc, &rows)?;
-    let tables = tables_of(&rt, alloc, joining.as_slice())?;
+    let tables = tables_of(rt, alloc, joining.as_slice())?;
     let process = no_process(alloc);
     let scope = Numbers::from_slice(alloc, &[0, 1, 2, 3])?;
     let linker = linker_of(&process, joining.as_slice(), &scope, &tables);
@@ -343,37 +341,24 @@ fn first_definition_wins(rt: HostRuntime) -> Result<(), Fail> {
     Ok(())
 }
 
-#[test]
-fn what_symbols_mean(rt: HostRuntime) -> Result<(), Fail> {
-    let alloc = rt.alloc();
-    let entries: [Entry; 9] = [
-        (b"weak", WEAK_FUNC, Place::Undefined, 0),
-        (b"strong", FUNC, Place::Undefined, 0),
-        (b"absolute", HIDDEN_FUNC, Place::Absolute, 0x300),
-        (b"odd", HIDDEN_FUNC, HERE, 0x302),
-        (b"data", HIDDEN_FUNC, HERE, 0x10000),
-        (b"hidden", HIDDEN_FUNC, HERE, 0x120),
-        (b"outside", HIDDEN_FUNC, HERE, 0x600),
-        (b"hidden", HIDDEN_FUNC, Place::Undefined, 0),
-        (b"", SECTION, HERE, 0x200),
-    ];
-    let rows: [Row; 2] = [
-        (
-            false,
-            &entries,
-            [(R_ARM_FUNCDESC, 9, 0x100), FILLER, FILLER, FILLER],
-        ),
-        (false, &[(b"hidden", FUNC, HERE, 0x400)], [FILLER; 4]),
-    ];
-    let joining = modules(alloc, &rows)?;
-    let tables = tables_of(&rt, alloc, joining.as_slice())?;
-    let process = no_process(alloc);
-    let scope = Numbers::from_slice(alloc, &[1, 0])?;
-    let linker = linker_of(&process, joining.as_slice(), &scope, &tables);
-    let o = object_of(&joining, 0)?;
+/// Symbols 1 to 9 of a module.
+const SYMBOLS: [Entry<'static>; 9] = [
+    (b"weak", WEAK_FUNC, Place::Undefined, 0),
+    (b"strong", FUNC, Place::Undefined, 0),
+    (b"absolute", HIDDEN_FUNC, Place::Absolute, 0x300),
+    (b"odd", HIDDEN_FUNC, HERE, 0x302),
+    (b"data", HIDDEN_FUNC, HERE, 0x10000),
+    (b"hidden", HIDDEN_FUNC, HERE, 0x120),
+    (b"outside", HIDDEN_FUNC, HERE, 0x600),
+    (b"hidden", HIDDEN_FUNC, Place::Undefined, 0),
+    (b"", SECTION, HERE, 0x200),
+];
+
+/// What these kinds of relocation on these symbols, whose names are told, mean.
+fn symbol_rows() -> [(u8, u32, &'static [u8], Answer); 16] {
     let none = Answer::Value(SiteValue::Pair(None));
     let no_descriptor = Answer::Value(SiteValue::Descriptor(None));
-    let rows: [(u8, u32, &[u8], Answer); 16] = [
+    [
         (R_ARM_FUNCDESC_VALUE, 1, b"weak", none),
         (R_ARM_FUNCDESC, 1, b"weak", no_descriptor),
         (R_ARM_ABS32, 1, b"weak", formula(Value::Number(0))),
@@ -390,17 +375,32 @@ fn what_symbols_mean(rt: HostRuntime) -> Result<(), Fail> {
         (R_ARM_FUNCDESC, 9, b"", descriptor(0, 0x300)),
         (R_ARM_FUNCDESC_VALUE, 9, b"", pair(0, 0x300)),
         (R_ARM_ABS32, 9, b"", formula(Value::Address(func(0, 0x200)))),
+    ]
+}
+
+fn what_symbols_mean(rt: &impl Abort, alloc: Global) -> Result<(), Fail> {
+    let rows: [Row; 2] = [
+        (
+            false,
+            &SYMBOLS,
+            [(R_ARM_FUNCDESC, 9, 0x100), FILLER, FILLER, FILLER],
+        ),
+        (false, &[(b"hidden", FUNC, HERE, 0x400)], [FILLER; 4]),
     ];
-    for (kind, symbol, name, want) in rows {
+    let joining = modules(alloc, &rows)?;
+    let tables = tables_of(rt, alloc, joining.as_slice())?;
+    let process = no_process(alloc);
+    let scope = Numbers::from_slice(alloc, &[1, 0])?;
+    let linker = linker_of(&process, joining.as_slice(), &scope, &tables);
+    let o = object_of(&joining, 0)?;
+    for (kind, symbol, name, want) in symbol_rows() {
         let answer = answer_at(&linker, alloc, o, (0x10010, kind, symbol), name);
         assert_eq!(rt; answer, want, "kind {kind} on symbol {symbol}");
     }
     Ok(())
 }
 
-#[test]
-fn what_addends_mean(rt: HostRuntime) -> Result<(), Fail> {
-    let alloc = rt.alloc();
+fn what_addends_mean(rt: &impl Abort, alloc: Global) -> Result<(), Fail> {
     let sites = [
         (R_ARM_RELATIVE, 0, 0x50),
         (R_ARM_RELATIVE, 0, 0x500),
@@ -409,7 +409,7 @@ fn what_addends_mean(rt: HostRuntime) -> Result<(), Fail> {
     ];
     let rows: [Row; 1] = [(false, &[], sites)];
     let joining = modules(alloc, &rows)?;
-    let tables = tables_of(&rt, alloc, joining.as_slice())?;
+    let tables = tables_of(rt, alloc, joining.as_slice())?;
     let process = no_process(alloc);
     let scope = Numbers::from_slice(alloc, &[0])?;
     let linker = linker_of(&process, joining.as_slice(), &scope, &tables);
@@ -430,42 +430,40 @@ fn what_addends_mean(rt: HostRuntime) -> Result<(), Fail> {
     Ok(())
 }
 
-#[test]
-fn who_needs_a_slot(rt: HostRuntime) -> Result<(), Fail> {
-    let alloc = rt.alloc();
-    let first: [Entry; 2] = [
-        (b"foo", FUNC, Place::Undefined, 0),
-        (b"", SECTION, HERE, 0x200),
-    ];
-    let second: [Entry; 3] = [
-        (b"foo", FUNC, HERE, 0x300),
-        (b"bar", HIDDEN_FUNC, HERE, 0x340),
-        (b"none", WEAK_FUNC, Place::Undefined, 0),
-    ];
-    let rows: [Row; 2] = [
-        (
-            false,
-            &first,
-            [
-                (R_ARM_FUNCDESC_VALUE, 0, 0x300),
-                (R_ARM_FUNCDESC, 1, 0),
-                (R_ARM_FUNCDESC_VALUE, 2, 0x100),
-                (R_ARM_FUNCDESC, 0, 0x300),
-            ],
-        ),
-        (
-            false,
-            &second,
-            [
-                (R_ARM_FUNCDESC, 1, 0),
-                (R_ARM_FUNCDESC, 2, 0),
-                (R_ARM_FUNCDESC, 3, 0),
-                (R_ARM_FUNCDESC, 0, 0x400),
-            ],
-        ),
-    ];
-    let joining = modules(alloc, &rows)?;
-    let tables = tables_of(&rt, alloc, joining.as_slice())?;
+/// A module with two private descriptors of one function, and one that asks for four descriptors.
+const ASKING: [Row<'static>; 2] = [
+    (
+        false,
+        &[
+            (b"foo", FUNC, Place::Undefined, 0),
+            (b"", SECTION, HERE, 0x200),
+        ],
+        [
+            (R_ARM_FUNCDESC_VALUE, 0, 0x300),
+            (R_ARM_FUNCDESC, 1, 0),
+            (R_ARM_FUNCDESC_VALUE, 2, 0x100),
+            (R_ARM_FUNCDESC, 0, 0x300),
+        ],
+    ),
+    (
+        false,
+        &[
+            (b"foo", FUNC, HERE, 0x300),
+            (b"bar", HIDDEN_FUNC, HERE, 0x340),
+            (b"none", WEAK_FUNC, Place::Undefined, 0),
+        ],
+        [
+            (R_ARM_FUNCDESC, 1, 0),
+            (R_ARM_FUNCDESC, 2, 0),
+            (R_ARM_FUNCDESC, 3, 0),
+            (R_ARM_FUNCDESC, 0, 0x400),
+        ],
+    ),
+];
+
+fn who_needs_a_slot(rt: &impl Abort, alloc: Global) -> Result<(), Fail> {
+    let joining = modules(alloc, &ASKING)?;
+    let tables = tables_of(rt, alloc, joining.as_slice())?;
     let process = no_process(alloc);
     let scope = Numbers::from_slice(alloc, &[0, 1])?;
     let linker = linker_of(&process, joining.as_slice(), &scope, &tables);
@@ -483,16 +481,14 @@ fn who_needs_a_slot(rt: HostRuntime) -> Result<(), Fail> {
     Ok(())
 }
 
-#[test]
-fn first_site_is_refused(rt: HostRuntime) -> Result<(), Fail> {
-    let alloc = rt.alloc();
+fn first_site_is_refused(rt: &impl Abort, alloc: Global) -> Result<(), Fail> {
     let bad = (R_ARM_RELATIVE, 0, 0x50);
     let rows: [Row; 2] = [
         (false, &[], [FILLER, FILLER, bad, bad]),
         (false, &[], [bad, FILLER, FILLER, FILLER]),
     ];
     let joining = modules(alloc, &rows)?;
-    let tables = tables_of(&rt, alloc, joining.as_slice())?;
+    let tables = tables_of(rt, alloc, joining.as_slice())?;
     let process = no_process(alloc);
     let scope = Numbers::from_slice(alloc, &[0, 1])?;
     let linker = linker_of(&process, joining.as_slice(), &scope, &tables);
@@ -502,4 +498,17 @@ fn first_site_is_refused(rt: HostRuntime) -> Result<(), Fail> {
     };
     assert_eq!(rt; refused, Some((0, 0x10020)));
     Ok(())
+}
+
+#[test]
+fn meanings(rt: HostRuntime) -> Result<(), Fail> {
+    first_definition_wins(&rt, rt.alloc())?;
+    what_symbols_mean(&rt, rt.alloc())?;
+    what_addends_mean(&rt, rt.alloc())
+}
+
+#[test]
+fn whole_loads(rt: HostRuntime) -> Result<(), Fail> {
+    who_needs_a_slot(&rt, rt.alloc())?;
+    first_site_is_refused(&rt, rt.alloc())
 }

@@ -1,57 +1,23 @@
 //! What loading writes at all sites of new modules.
 
-ghost use Rattle.std.specs.Prelude.{◌≡◌, ◌+◌, ◌++◌, ◌^◌, ◌≤◌, [], map, slice_get, unwrap_or, All, Some, None, IfOk, IfErr, OnOk};
+ghost use Rattle.std.specs.Prelude.{◌≡◌, ◌+◌, ◌^◌, ◌≤◌, [], map, slice_get, All, Some, None, IfOk, IfErr, OnOk};
 ghost use Rattle.std.specs.List.{filter_map};
 ghost use Rattle.std.specs.Result.{result_err};
 ghost use Rattle.elf_model.specs.Sound.{IsSound};
 ghost use Rattle.load_model.specs.Linkage.{members_of};
 ghost use Rattle.load_model.specs.Sites as spec;
-ghost use Rattle.load_sites.specs.Answers.{Tells};
-ghost use Rattle.load_sites.specs.Linker.{linkage, IsReady};
-ghost use Rattle.load_sites.specs.Values.{AreValuesOf, IsValues};
+ghost use Rattle.load_sites.specs.parts.Answers.{Tells};
+ghost use Rattle.load_sites.specs.parts.Linker.{linkage, IsReady};
+ghost use Rattle.load_sites.specs.parts.Values.{AreValuesOf, IsValues};
 
 use crate::linker::Linker;
-use elf_model::constants::R_ARM_RELATIVE;
-use elf_model::{Object, Rel, Rels};
-use fd_base::{Memory, Seq};
+use elf_model::{Object, Rel};
+use fd_base::Seq;
 use load_model::{LoadErr, SiteValue};
 use std::alloc::Global;
 
 /// What is written at each site of a module, in the order of its sites.
 pub type Values = Seq<SiteValue>;
-
-fn fixups_of(o: &Object) -> &[u32]
-    ensures { result.now ≡ unwrap_or o.entry.now.fixups [] }
-{
-    match &o.fixups {
-        Some(fixups) => fixups.as_slice(),
-        None => &[],
-    }
-}
-
-/// Puts the sites of words of `.rofixup` behind the others.
-fn add_fixups(sites: &mut Rels, fixups: &[u32]) -> Result<(), Memory>
-    ensures { OnOk result (sites.new ≡ sites.old ++ map spec.fixup_at fixups.now) }
-{
-    for fixup in fixups {
-        sites.push(Rel {
-            site: *fixup,
-            kind: R_ARM_RELATIVE,
-            symbol: 0,
-        })?;
-    }
-    Ok(())
-}
-
-/// The sites of an object: DT_REL, DT_JMPREL and the fixups, each in table order.
-pub fn sites_of(alloc: Global, o: &Object) -> Result<Rels, Memory>
-    ensures { IfOk result (λ sites. sites ≡ spec.sites_of o.entry.now) }
-{
-    let mut sites = Seq::from_slice(alloc, o.rels.as_slice())?;
-    sites.extend_from_slice(o.jmprels.as_slice())?;
-    add_fixups(&mut sites, fixups_of(o))?;
-    Ok(sites)
-}
 
 impl<'a> Linker<'a> {
     /// What is written at these sites, or why the first of them that can't be filled can't.
@@ -78,7 +44,7 @@ impl<'a> Linker<'a> {
         ensures none { OnOk result (spec.refusals_of (linkage self.now) m o.entry.now ≡ []) }
         ensures error { IfErr result (Tells (λ x. slice_get (spec.refusals_of (linkage self.now) m o.entry.now) 0 ≡ Some x)) }
     {
-        let sites = sites_of(alloc, o)?;
+        let sites = o.site_relocations(alloc)?;
         self.values_at(alloc, m, o, sites.as_slice())
     }
 

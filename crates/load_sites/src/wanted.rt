@@ -1,15 +1,15 @@
 //! The functions that need a slot for their descriptor.
 
-ghost use Rattle.std.specs.Prelude.{◌≡◌, ◌≤◌, ◌++◌, ℕ, [], not, ◌||◌, is_some, filter, length, option_to_list, Ok, IfOk, OnOk, if◌then◌else◌};
+ghost use Rattle.std.specs.Prelude.{◌≡◌, ◌≤◌, ◌++◌, not, ◌||◌, is_some, filter, length, option_to_list, Ok, IfOk, OnOk, if◌then◌else◌};
 ghost use Rattle.std.specs.FinMap.{get};
 ghost use Rattle.elf_model.specs.declared.func.Func.{Func};
 ghost use Rattle.symbol_scope.specs.Closure.{has, with_one, firsts};
 ghost use Rattle.std.specs.List.{filter_map, flat_map};
 ghost use Rattle.load_model.specs.Descriptors as spec;
 ghost use Rattle.load_model.specs.Linkage.{members_of};
-ghost use Rattle.load_sites.specs.Descriptors.{all_asked_by};
-ghost use Rattle.load_sites.specs.Linker.{linkage};
-ghost use Rattle.load_sites.specs.Values.{AreValuesOf, IsValues};
+ghost use Rattle.load_sites.specs.parts.Descriptors.{all_asked_by};
+ghost use Rattle.load_sites.specs.parts.Linker.{linkage};
+ghost use Rattle.load_sites.specs.parts.Values.{AreValuesOf, IsValues};
 
 use crate::funcs::Funcs;
 use crate::linker::Linker;

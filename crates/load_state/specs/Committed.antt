@@ -1,20 +1,23 @@
 -- What a load does.
 use Rattle.std.specs.Prelude.{◌≡◌, ℕ, ◌+◌, ◌<◌, false, List, slice_get, Some, Contains}
 use Rattle.std.specs.FinMap.{get}
-use Rattle.fd_base.specs.declared.map.MapEntry.{MapEntry}
+use Rattle.load_map.specs.declared.entry.MapEntry.{MapEntry}
 use Rattle.elf_model.specs.declared.func.Func.{Func}
-use Rattle.guest_mem.specs.Memory.{Memory, byte_at, is_watched}
+use Rattle.guest_mem.specs.Memory.{GuestMemory, byte_at, is_watched}
 use Rattle.placement.specs.Space.{all_held}
 use Rattle.load_model.specs.declared.layout.TheConstants.{LOAD_MAP_SIZE}
 use Rattle.load_model.specs.declared.module.Joining.{Joining}
 use Rattle.load_model.specs.declared.plan.TheConstants.{DESCRIPTOR_SIZE}
 use Rattle.load_model.specs.Descriptors.{descriptors_after}
 use Rattle.load_model.specs.Image.{image_of, load_map_at, place_of, got_of}
+use Rattle.load_map.specs.Maps.{map_at}
 use Rattle.load_model.specs.Joined.{process_after}
-use Rattle.load_model.specs.Layout.{IsLaidOut, HasLoadMap, HasPair, is_in}
+use Rattle.load_model.specs.Layout.{IsLaidOut, HasLoadMap, HasPair}
+use Rattle.fd_base.specs.Ranges.{is_in}
 use Rattle.load_model.specs.Linkage.{linkage_of}
 use Rattle.load_state.specs.declared.plan.GroupPlan.{GroupPlan}
-use Rattle.load_state.specs.Loaded.{Loaded, map_at, in_memory, placing_of}
+use Rattle.load_state.specs.Loaded.{Loaded, in_memory, placing_of}
+use Rattle.load_map.specs.Maps.{map_at}
 
 -- each byte of a new module is that of its image
 abbrev pub HasNewImages : Loaded → List Joining → Type 0
@@ -30,7 +33,7 @@ pub record IsElsewhere (plan : GroupPlan) (a : ℕ) : Type 0 where
   pub slots : (f : Func) (at : ℕ) → Contains plan.given (f, at) → is_in at DESCRIPTOR_SIZE a ≡ false
 
 -- the same byte, which is watched where it was
-pub record IsSameAt (old new : Memory) (a : ℕ) : Type 0 where
+pub record IsSameAt (old new : GuestMemory) (a : ℕ) : Type 0 where
   pub byte : byte_at new a ≡ byte_at old a
   pub watched : is_watched new a ≡ is_watched old a
 

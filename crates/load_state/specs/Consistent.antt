@@ -2,7 +2,7 @@
 use Rattle.std.specs.Prelude.{◌≡◌, ◌≢◌, ◌⊎◌, ℕ, ◌+◌, ◌%◌, ◌<◌, ◌≤◌, ◌↔◌, true, [], length, slice_get, Some, None, Ok, Contains, AllPairs}
 use Rattle.std.specs.FinMap.{get}
 use Rattle.std.specs.List.{AllZip}
-use Rattle.fd_base.specs.declared.map.MapEntry.{MapEntry}
+use Rattle.load_map.specs.declared.entry.MapEntry.{MapEntry}
 use Rattle.elf_model.specs.declared.func.Func.{Func}
 use Rattle.elf_model.specs.declared.object.Object.{Object}
 use Rattle.elf_model.specs.declared.object.Rel.{Rel}
@@ -20,14 +20,18 @@ use Rattle.load_model.specs.declared.meaning.SiteValue.TheVariants.{Descriptor}
 use Rattle.load_model.specs.declared.plan.MemPlan.{MemPlan}
 use Rattle.load_model.specs.declared.plan.TheConstants.{DESCRIPTOR_SIZE}
 use Rattle.load_model.specs.Descriptors.{privates_of}
-use Rattle.load_model.specs.Image.{image_of, load_map_at, place_of, got_of, placed}
-use Rattle.load_model.specs.Layout.{IsLaidOut, HasBytes, HasLoadMap, HasPair, IsClear, bytes_of_words}
+use Rattle.load_model.specs.Image.{image_of, load_map_at, place_of, got_of}
+use Rattle.load_map.specs.Maps.{map_at}
+use Rattle.load_map.specs.Translation.{placed}
+use Rattle.load_model.specs.Layout.{IsLaidOut, HasBytes, HasLoadMap, HasPair, IsBlank, bytes_of_words}
 use Rattle.load_model.specs.Linkage.{linkage_of}
 use Rattle.load_model.specs.Plan.{Fits, low_of, high_of}
 use Rattle.load_model.specs.Process.{object_at, is_live}
-use Rattle.load_model.specs.Sites.{refusals_of, sites_of, site_value}
+use Rattle.load_model.specs.Sites.{refusals_of, site_value}
+use Rattle.elf_model.specs.Filled.{site_relocations}
 use Rattle.load_model.specs.Validity.{IsValid}
-use Rattle.load_state.specs.Loaded.{Loaded, map_at, in_memory, placing_of, pool_of}
+use Rattle.load_state.specs.Loaded.{Loaded, in_memory, placing_of, pool_of}
+use Rattle.load_map.specs.Maps.{map_at}
 
 -- a segment lies between the addresses of modules, congruent to its link address
 pub record IsEntryOf (plan : MemPlan) (s : Segment) (e : MapEntry) : Type 0 where
@@ -44,7 +48,7 @@ pub record IsStanding (l : Loaded) (m : ℕ) (o : Object) : Type 0 where
   pub mapped : AllZip (IsEntryOf l.plan) o.segments (map_at l.maps m)
   pub apart : AllPairs PlacedApart (map_at l.maps m)
   pub filled : refusals_of (linkage_of l.process) m o ≡ []
-  pub described : (r : Rel) (f : Func) → Contains (sites_of o) r → site_value (linkage_of l.process) m o r ≡ Ok (Descriptor (Some f)) → get l.addrs f ≢ None
+  pub described : (r : Rel) (f : Func) → Contains (site_relocations o) r → site_value (linkage_of l.process) m o r ≡ Ok (Descriptor (Some f)) → get l.addrs f ≢ None
 
 pub record HasModules (l : Loaded) : Type 0 where
   pub count : length l.maps ≡ MAX_MODULES
@@ -86,10 +90,10 @@ pub record HoldsTables (l : Loaded) : Type 0 where
   pub resolver : HasBytes l.memory RESOLVER (bytes_of_words RESOLVER_WORDS)
   pub ends : HasBytes l.memory THREAD_END (bytes_of_words END_WORDS)
   pub load_maps : (m : ℕ) (o : Object) → object_at l.process m ≡ Some o → HasLoadMap l.memory m (map_at l.maps m)
-  pub other_maps : (m : ℕ) → m < MAX_MODULES → object_at l.process m ≡ None → IsClear l.memory (load_map_at m) LOAD_MAP_SIZE
+  pub other_maps : (m : ℕ) → m < MAX_MODULES → object_at l.process m ≡ None → IsBlank l.memory (load_map_at m) LOAD_MAP_SIZE
   pub slots : (f : Func) (a : ℕ) → get l.addrs f ≡ Some a → IsSlot (pool_of l.plan l.addrs) a
       → HasPair l.memory a (place_of (placing_of l.process l.maps l.addrs) f) (got_of (placing_of l.process l.maps l.addrs) f.module)
-  pub free : (a : ℕ) → Contains (free_slots (pool_of l.plan l.addrs)) a → IsClear l.memory a DESCRIPTOR_SIZE
+  pub free : (a : ℕ) → Contains (free_slots (pool_of l.plan l.addrs)) a → IsBlank l.memory a DESCRIPTOR_SIZE
 
 pub record IsConsistent (l : Loaded) : Type 0 where
   pub fits : Fits l.plan

@@ -1,8 +1,8 @@
-pub mod Accepts
+pub mod Accepted
 pub mod Committed
 pub mod Consistent
 pub mod Loaded
+pub mod ProgramLoad
 pub mod Refused
 pub mod Slots
-pub mod Laws
-pub mod Loading
+pub mod parts

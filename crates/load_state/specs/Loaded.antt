@@ -1,15 +1,17 @@
 -- What a loader holds: one process, where it is placed, and its memory.
-use Rattle.std.specs.Prelude.{◌≡◌, ℕ, List, [], slice_index_or, option_map}
+use Rattle.std.specs.Prelude.{◌≡◌, ℕ, List, Option, option_map}
 use Rattle.std.specs.FinMap.{get}
-use Rattle.fd_base.specs.declared.map.MapEntry.{MapEntry}
+use Rattle.load_map.specs.declared.entry.MapEntry.{MapEntry}
 use Rattle.func_desc.specs.Functions.{AddrMap}
 use Rattle.func_desc.specs.Pool.{Pool}
-use Rattle.guest_mem.specs.Memory.{Memory}
+use Rattle.guest_mem.specs.Memory.{GuestMemory}
 use Rattle.placement.specs.declared.item.Held.{Held}
-use Rattle.load_model.specs.declared.module.Process.{Process}
+use Rattle.load_model.specs.declared.module.SymbolicProcess.{SymbolicProcess}
 use Rattle.load_model.specs.declared.plan.MemPlan.{MemPlan}
 use Rattle.load_model.specs.declared.plan.TheConstants.{DESCRIPTORS}
 use Rattle.load_model.specs.Image.{Placing}
+use Rattle.load_map.specs.Maps.{map_at}
+use Rattle.load_map.specs.Translation.{placed}
 use Rattle.load_model.specs.Layout.{InMemory}
 use Rattle.load_model.specs.Process.{object_at}
 
@@ -17,39 +19,40 @@ pub record Loaded : Type 0 where
   -- never changes
   pub plan : MemPlan
   -- without addresses
-  pub process : Process
+  pub process : SymbolicProcess
   -- the load map of each module by number, which is empty where none is live
   pub maps : List (List MapEntry)
   -- the ranges of the placed segments
   pub held : List Held
   -- the address of each function's descriptor
   pub addrs : AddrMap
-  pub memory : Memory
+  pub memory : GuestMemory
 
 -- a loader: what it holds, and for how many more ranges and adopted descriptors there is room
-pub record State : Type 0 where
+pub record LoaderState : Type 0 where
   pub loaded : Loaded
   pub range_room : ℕ
   pub descriptor_room : ℕ
 
 -- The same. Room that is reserved counts for nothing.
-abbrev pub IsUnchanged : State → State → Type 0
+abbrev pub IsUnchanged : LoaderState → LoaderState → Type 0
 IsUnchanged old new = new.loaded ≡ old.loaded
 
-abbrev pub map_at : List (List MapEntry) → ℕ → List MapEntry
-map_at maps m = slice_index_or maps m []
-
 -- the modules in memory
-abbrev pub in_memory : Process → List (List MapEntry) → InMemory
+abbrev pub in_memory : SymbolicProcess → List (List MapEntry) → InMemory
 in_memory p maps = record { objects = object_at p; maps = map_at maps }
 
 -- where the modules of a process are placed
-abbrev pub placing_of : Process → List (List MapEntry) → AddrMap → Placing
+abbrev pub placing_of : SymbolicProcess → List (List MapEntry) → AddrMap → Placing
 placing_of p maps addrs = record {
   maps = map_at maps;
   gots = λ m. option_map (λ o. o.got) (object_at p m);
   descriptors = get addrs;
 }
+
+-- the placed address of a live module's GOT
+abbrev pub got_at : SymbolicProcess → List (List MapEntry) → ℕ → Option ℕ
+got_at p maps m = option_map (λ o. placed (map_at maps m) o.got) (object_at p m)
 
 -- the slots of descriptors
 abbrev pub pool_of : MemPlan → AddrMap → Pool

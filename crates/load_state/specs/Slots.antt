@@ -1,8 +1,8 @@
 -- What the slots of modules hold.
 use Rattle.std.specs.Prelude.{ℕ, List, [], map, slice_get, Option, None, Result, Ok, Err}
 use Rattle.std.specs.FinMap.{empty}
-use Rattle.fd_base.specs.declared.map.MapEntry.{MapEntry}
-use Rattle.load_model.specs.declared.module.Process.{Process}
+use Rattle.load_map.specs.declared.entry.MapEntry.{MapEntry}
+use Rattle.load_model.specs.declared.module.SymbolicProcess.{SymbolicProcess}
 use Rattle.std.specs.Option.{option_map_or}
 use Rattle.elf_model.specs.declared.func.Func.{Func}
 use Rattle.elf_model.specs.declared.object.Object.{Object}
@@ -10,7 +10,8 @@ use Rattle.elf_model.specs.declared.object.Rel.{Rel}
 use Rattle.load_model.specs.declared.error.LoadRefusal.{LoadRefusal}
 use Rattle.load_model.specs.declared.words.SlotPair.{SlotPair}
 use Rattle.load_model.specs.Definition.{Linkage}
-use Rattle.load_model.specs.Image.{Placing, place_of, got_of, placed}
+use Rattle.load_model.specs.Image.{Placing, place_of, got_of}
+use Rattle.load_map.specs.Translation.{placed}
 use Rattle.load_model.specs.Linkage.{linkage_of}
 use Rattle.load_model.specs.Process.{object_at}
 use Rattle.load_model.specs.Sites.{function_at}
@@ -37,10 +38,10 @@ abbrev pub slot_pairs : Linkage → Placing → ℕ → Object → List SlotPair
 slot_pairs l p m o = map (slot_pair_at l p m o) o.jmprels
 
 -- those of module m of a process, whose load maps are these; which address a descriptor has doesn't matter
-abbrev pub slots_of_module : Process → List (List MapEntry) → ℕ → List SlotPair
+abbrev pub slots_of_module : SymbolicProcess → List (List MapEntry) → ℕ → List SlotPair
 slots_of_module p maps m =
     option_map_or (slot_pairs (linkage_of p) (placing_of p maps empty) m) (object_at p m) []
 
 -- slot k of module m, both counted from 0
-abbrev pub slot_pair_of : Process → List (List MapEntry) → ℕ → ℕ → Option SlotPair
+abbrev pub slot_pair_of : SymbolicProcess → List (List MapEntry) → ℕ → ℕ → Option SlotPair
 slot_pair_of p maps m k = slice_get (slots_of_module p maps m) k

@@ -1,12 +1,11 @@
 //! What a load is to do.
 
 use elf_model::Func;
-use fd_base::{Bytes, MapEntry, Numbers, Seq};
-use load_model::Joining;
+use fd_base::{Bytes, Numbers, Seq};
+use load_map::MapEntry;
+use load_model::{Joining, Maps};
 use placement::{Addrs, Items};
 
-/// Load maps by the numbers of their modules.
-pub type Maps = Seq<Seq<MapEntry>>;
 /// The finished bytes of each segment of each new module.
 pub type Parts = Seq<Seq<Bytes>>;
 /// Functions, each with the address of its descriptor.

@@ -10,44 +10,47 @@ use Rattle.std.proofs.lemmas.Bool.Decides.{Decides-eqb}
 use Rattle.std.proofs.lemmas.List.Elements.{All-contains, All-nil, All-head, All-tail, Contains-append_left, Contains-append_right}
 use Rattle.std.proofs.lemmas.Nat.{from_le_bytes-to_le_bytes_4}
 use Rattle.std.proofs.lemmas.Option.{slice_get-map}
-use Rattle.fd_base.specs.declared.map.MapEntry.{MapEntry}
-use Rattle.fd_base.specs.LoadMap.{is_end_of, is_held_by, placed_by}
+use Rattle.load_map.specs.declared.entry.MapEntry.{MapEntry}
+use Rattle.load_map.specs.Translation.{is_end_of, is_held_by, placed_by, placed}
 use Rattle.elf_model.specs.declared.constants.TheConstants.{R_ARM_FUNCDESC_VALUE}
 use Rattle.elf_model.specs.declared.func.Func.{Func}
 use Rattle.elf_model.specs.declared.object.Object.{Object}
 use Rattle.elf_model.specs.declared.object.Rel.{Rel}
 use Rattle.elf_model.specs.Places.{is_writable_in, site_of_rel}
 use Rattle.elf_model.specs.Sound.{IsInPlace}
-use Rattle.guest_mem.specs.Memory.{Memory, byte_at, is_watched}
-use Rattle.keep_descriptors.proofs.Places.{contains_at}
-use Rattle.keep_places.proofs.Ends.{maps_end_lem}
-use Rattle.keep_places.proofs.Lists.{zip_gives}
-use Rattle.load_image.proofs.Standing.{site_stands}
-use Rattle.load_image.specs.Bounds.{EndsBelow}
-use Rattle.load_image.specs.Laws.{HasWord}
-use Rattle.load_keeps.proofs.Apart.{inside as within_there, is_inside, zip_get}
-use Rattle.load_keeps.proofs.Members.{contains_later, filter_map_in, map_in, nothing_in}
-use Rattle.load_memory.proofs.Lists.{all_at}
-use Rattle.load_memory.proofs.Steps.{slots_in_place}
+use Rattle.guest_mem.specs.Memory.{GuestMemory, byte_at, is_watched}
+use Rattle.fd_base.proofs.Members.{contains_at, filter_map_in, map_in, nothing_in, contains_later}
+use Rattle.load_places.proofs.SegmentEnds.{maps_end_lem}
+use Rattle.load_places.proofs.PairedLists.{zip_gives}
+use Rattle.load_image.proofs.StandingWords.{site_stands}
+use Rattle.load_map.specs.parts.IsLoadMap.{EndsBelow}
+use Rattle.load_image.specs.parts.Laws.{HasWord}
+use Rattle.fd_base.proofs.Ranges.{is_inside, inside as within_there}
+use Rattle.fd_base.proofs.Lists.{zip_at_right, all_at}
+use Rattle.load_memory.proofs.PlacingSteps.{slots_in_place}
 use Rattle.load_memory.proofs.Watchable.{LiesIn, inside, lies_in, placed_there}
-use Rattle.load_memory.specs.Placing.{IsPlacedBy}
+use Rattle.load_memory.specs.parts.PlacingSteps.{IsPlacedBy}
 use Rattle.load_model.specs.declared.error.LoadRefusal.{LoadRefusal}
 use Rattle.load_model.specs.declared.meaning.SiteValue.TheVariants.{Pair}
-use Rattle.load_model.specs.declared.module.Process.{Process}
+use Rattle.load_model.specs.declared.module.SymbolicProcess.{SymbolicProcess}
 use Rattle.load_model.specs.declared.words.LinkWord.{LinkWord}
 use Rattle.load_model.specs.declared.words.SlotPair.{SlotPair}
 use Rattle.load_model.specs.Definition.{Linkage}
-use Rattle.load_model.specs.Image.{Placing, got_of, image_of, pair_at, pair_words, place_of, placed}
+use Rattle.load_model.specs.Image.{Placing, got_of, image_of, pair_at, pair_words, place_of}
+use Rattle.load_map.specs.Maps.{map_at}
 use Rattle.load_model.specs.Layout.{watched_ranges}
 use Rattle.load_model.specs.Linkage.{linkage_of}
 use Rattle.load_model.specs.Process.{object_at}
-use Rattle.load_model.specs.Sites.{function_at, refusals_of, site_value, sites_of, written}
+use Rattle.load_model.specs.Sites.{function_at, refusals_of, site_value, written}
+use Rattle.elf_model.specs.Filled.{site_relocations}
 use Rattle.load_model.specs.Plan.{high_of}
-use Rattle.load_process.proofs.Lists.{find_some, to_filter}
+use Rattle.load_process.proofs.Lists.{to_filter}
+use Rattle.fd_base.proofs.Finding.{find_some}
 use Rattle.load_state.specs.Consistent.{IsConsistent, IsEntryOf, IsStanding}
-use Rattle.load_state.specs.Loaded.{Loaded, map_at, placing_of}
+use Rattle.load_state.specs.Loaded.{Loaded, placing_of}
+use Rattle.load_map.specs.Maps.{map_at}
 use Rattle.load_state.specs.Slots.{function_or_none, slot_pair_at, slot_pair_of}
-use Rattle.mod_load.specs.Slots.{HasSlots, HasWordAt, IsFilled}
+use Rattle.mod_load.specs.parts.SlotWords.{HasSlots, HasWordAt, IsFilled}
 
 -- ---- placed addresses are numbers of 32 bits
 
@@ -83,10 +86,10 @@ function_given : (x : Result (Option Func) LoadRefusal) → result_err (written 
 function_given (Ok f) none = refl
 function_given (Err e) none = absurd cc
 
-no_refusal : (k : Linkage) (m : ℕ) (o : Object) (r : Rel) (x : Option LoadRefusal) → refusals_of k m o ≡ [] → Contains (sites_of o) r → result_err (site_value k m o r) ≡ x → x ≡ None
+no_refusal : (k : Linkage) (m : ℕ) (o : Object) (r : Rel) (x : Option LoadRefusal) → refusals_of k m o ≡ [] → Contains (site_relocations o) r → result_err (site_value k m o r) ≡ x → x ≡ None
 no_refusal k m o r None filled there is = refl
 no_refusal k m o r (Some e) filled there is =
-    absurd (nothing_in e (subst (λ (es : List LoadRefusal). Contains es e) filled (filter_map_in (λ (q : Rel). result_err (site_value k m o q)) (sites_of o) r e there is)))
+    absurd (nothing_in e (subst (λ (es : List LoadRefusal). Contains es e) filled (filter_map_in (λ (q : Rel). result_err (site_value k m o q)) (site_relocations o) r e there is)))
 
 pair_of : (p : Placing) (site : ℕ) (f : Option Func) → pair_words p site f ≡ pair_at site (option_map_or (place_of p) f 0) (option_map_or (λ g. got_of p g.module) f 0)
 pair_of p site None = refl
@@ -111,7 +114,7 @@ module _ (l : Loaded) (c : IsConsistent l) (small : length l.memory.bytes < 2 ^ 
   same : AllZip IsPlacedBy o.segments es
   same = zip_gives (IsEntryOf l.plan) IsPlacedBy (λ s e is. record { vaddr = is.vaddr'; memsz = is.memsz' }) o.segments es stands.mapped
 
-  listed : Contains (sites_of o) r
+  listed : Contains (site_relocations o) r
   listed = Contains-append_left (o.rels ++ o.jmprels) _ r (Contains-append_right o.rels o.jmprels r (contains_at o.jmprels k r at))
 
   kind : r.kind ≡ R_ARM_FUNCDESC_VALUE
@@ -140,8 +143,8 @@ module _ (l : Loaded) (c : IsConsistent l) (small : length l.memory.bytes < 2 ^ 
   range : Contains (watched_ranges es o) (placed es r.site, 8)
   range =
       contains_later (placed es o.got, 12) (placed es r.site, 8) _
-      (map_in (λ (q : Rel). (placed es q.site, 8)) (filter (λ (q : Rel). q.kind == R_ARM_FUNCDESC_VALUE) (sites_of o)) r
-      (to_filter (λ (q : Rel). q.kind == R_ARM_FUNCDESC_VALUE) (sites_of o) r ((Decides-eqb r.kind R_ARM_FUNCDESC_VALUE).1 kind) listed))
+      (map_in (λ (q : Rel). (placed es q.site, 8)) (filter (λ (q : Rel). q.kind == R_ARM_FUNCDESC_VALUE) (site_relocations o)) r
+      (to_filter (λ (q : Rel). q.kind == R_ARM_FUNCDESC_VALUE) (site_relocations o) r ((Decides-eqb r.kind R_ARM_FUNCDESC_VALUE).1 kind) listed))
 
   -- each byte of the slot is that of the image
   byte : (i : ℕ) → i < 8 → byte_at l.memory (placed es r.site + i) ≡ image_of (linkage_of l.process) P m o (r.site + i)
@@ -179,7 +182,7 @@ module _ (l : Loaded) (c : IsConsistent l) (small : length l.memory.bytes < 2 ^ 
       let first : LinkWord = record { addr = r.site; value = option_map_or (place_of P) f 0 } in
       let second : LinkWord = record { addr = r.site + 4; value = option_map_or (λ g. got_of P g.module) f 0 } in
       let memory_end : length l.memory.bytes ≡ l.plan.memory = c.laid_out.size in
-      let entry : IsEntryOf l.plan _ lies.e = (zip_get (IsEntryOf l.plan) o.segments es lies.k lies.e stands.mapped lies.entry).2 in
+      let entry : IsEntryOf l.plan _ lies.e = (zip_at_right (IsEntryOf l.plan) o.segments es lies.k lies.e stands.mapped lies.entry).2 in
       let below : lies.e.addr + lies.e.memsz ≤ high_of l.plan = entry.below in
       let high = within.1 in
       record {
@@ -196,13 +199,13 @@ module _ (l : Loaded) (c : IsConsistent l) (small : length l.memory.bytes < 2 ^ 
 
 -- ---- all slots
 
-pub pair_told : (p : Process) (maps : List (List MapEntry)) (m k : ℕ) (o : Object) → object_at p m ≡ Some o
+pub pair_told : (p : SymbolicProcess) (maps : List (List MapEntry)) (m k : ℕ) (o : Object) → object_at p m ≡ Some o
     → slot_pair_of p maps m k ≡ option_map (slot_pair_at (linkage_of p) (placing_of p maps empty) m o) (slice_get o.jmprels k)
 pair_told p maps m k o live =
     let pairs : Object → List SlotPair = λ x. map (slot_pair_at (linkage_of p) (placing_of p maps empty) m x) x.jmprels in
     ap (λ x. slice_get (option_map_or pairs x []) k) live ∙ slice_get-map (slot_pair_at (linkage_of p) (placing_of p maps empty) m o) o.jmprels k
 
-pub none_told : (p : Process) (maps : List (List MapEntry)) (m k : ℕ) → object_at p m ≡ None → slot_pair_of p maps m k ≡ None
+pub none_told : (p : SymbolicProcess) (maps : List (List MapEntry)) (m k : ℕ) → object_at p m ≡ None → slot_pair_of p maps m k ≡ None
 none_told p maps m k none = ap (λ x. slice_get (option_map_or (λ o. map (slot_pair_at (linkage_of p) (placing_of p maps empty) m o) o.jmprels) x []) k) none
 
 pub has_slots : (l : Loaded) → IsConsistent l → length l.memory.bytes < 2 ^ 32 → HasSlots l.process l.maps l.memory
@@ -224,7 +227,7 @@ has_slots l c small m k s is = by (object_at l.process m) refl
 
 -- ---- one slot
 
-module _ (p : Process) (maps : List (List MapEntry)) (memory : Memory) (m k : ℕ) (o : Object) (r : Rel) (addr : ℕ) (filled : HasSlots p maps memory) (live : object_at p m ≡ Some o) (at : slice_get o.jmprels k ≡ Some r)
+module _ (p : SymbolicProcess) (maps : List (List MapEntry)) (memory : GuestMemory) (m k : ℕ) (o : Object) (r : Rel) (addr : ℕ) (filled : HasSlots p maps memory) (live : object_at p m ≡ Some o) (at : slice_get o.jmprels k ≡ Some r)
     (place : addr ≡ placed (map_at maps m) r.site) where
   this_slot : slot_pair_of p maps m k ≡ Some (slot_pair_at (linkage_of p) (placing_of p maps empty) m o r)
   this_slot = pair_told p maps m k o live ∙ ap (option_map (slot_pair_at (linkage_of p) (placing_of p maps empty) m o)) at
@@ -249,7 +252,7 @@ four (a ∷ b ∷ []) is = absurd (omega arith)
 four (a ∷ b ∷ c ∷ []) is = absurd (omega arith)
 
 -- the number that the four bytes of a word are read as
-pub word_read : (memory : Memory) (at w a b c d : ℕ) → w < 2 ^ 32 → HasWordAt memory at w → a ≡ byte_at memory at → b ≡ byte_at memory (at + 1) → c ≡ byte_at memory (at + 2) → d ≡ byte_at memory (at + 3)
+pub word_read : (memory : GuestMemory) (at w a b c d : ℕ) → w < 2 ^ 32 → HasWordAt memory at w → a ≡ byte_at memory at → b ≡ byte_at memory (at + 1) → c ≡ byte_at memory (at + 2) → d ≡ byte_at memory (at + 3)
     → from_le_bytes w32 (a ∷ b ∷ c ∷ d ∷ []) ≡ w
 word_read memory at w a b c d small has p q r s =
     let first_byte : at ≡ at + 0 = omega arith in

@@ -1,27 +1,25 @@
 //! What is asked of a loader.
 
 ghost use Rattle.std.specs.Prelude.{◌≡◌, find, All};
-ghost use Rattle.load_image.specs.Bounds.{EndsBelow};
+ghost use Rattle.load_map.specs.parts.IsLoadMap.{EndsBelow};
 ghost use Rattle.std.specs.Borrow.{sem};
 ghost use Rattle.std.specs.List.{list_any, range_with_len};
-ghost use Rattle.load_model.specs.Layout.{is_in};
-ghost use Rattle.mod_load.specs.Accessors as spec;
+ghost use Rattle.fd_base.specs.Ranges.{is_in};
+ghost use Rattle.load_state.specs.Loaded as loaded;
+ghost use Rattle.mod_load.specs.parts.Accessors as spec;
 
 use crate::loader::Loader;
-use crate::slots::map_of;
-use elf_model::Inits;
-use fd_base::MapEntry;
 use guest_mem::Guest;
-use load_image::{LoadMap, placed};
-use load_model::{MAX_MODULES, Process};
-use load_process::{is_live, object_at};
+use load_map::{MapEntry, map_at, placed};
+use load_model::{MAX_MODULES, MapEntries, SymbolicProcess};
 
 impl Loader {
     ghost use Rattle.std.specs.Prelude.{◌≡◌, ◌^◌, ◌<◌};
     ghost use Rattle.load_model.specs.Process.{is_live};
     ghost use Rattle.load_state.specs.Consistent.{IsConsistent};
-    ghost use Rattle.mod_load.specs.Accessors.{module_at, got_at, is_skipped};
-    ghost use Rattle.mod_load.specs.Lending.{LendsGuest};
+    ghost use Rattle.load_state.specs.Loaded.{got_at};
+    ghost use Rattle.mod_load.specs.parts.Accessors.{module_at, is_skipped};
+    ghost use Rattle.mod_load.specs.parts.Loans.{LendsGuest};
 
     /// The memory of the process, for its program to run in. What is written there is all that changes.
     pub fn guest(&mut self) -> &mut Guest
@@ -39,14 +37,14 @@ impl Loader {
     }
 
     /// The live modules, without addresses.
-    pub fn process(&self) -> &Process
+    pub fn process(&self) -> &SymbolicProcess
         ensures { result.now ≡ self.now.loaded.process }
     {
         &self.process
     }
 
     /// The load map of each module, by number.
-    pub fn maps(&self) -> &[LoadMap]
+    pub fn maps(&self) -> &[MapEntries]
         ensures { result.now ≡ self.now.loaded.maps }
     {
         self.maps.as_slice()
@@ -56,7 +54,7 @@ impl Loader {
     pub fn live(&self, m: u32) -> bool
         ensures { result ≡ is_live self.now.loaded.process m }
     {
-        is_live(&self.process, m)
+        self.process.is_live(m)
     }
 
     /// The placed address of the GOT of a live module.
@@ -79,19 +77,19 @@ impl Loader {
     pub fn skipped(&self, m: u32) -> bool
         ensures { result ≡ is_skipped self.now.loaded.process m }
     {
-        match object_at(&self.process, m) {
-            Some(object) => has_inits(&object.inits),
+        match self.process.object_at(m) {
+            Some(object) => object.inits.has_any(),
             None => false,
         }
     }
 }
 
-fn got_at(process: &Process, maps: &[LoadMap], m: u32) -> Option<u32>
+fn got_at(process: &SymbolicProcess, maps: &[MapEntries], m: u32) -> Option<u32>
     requires { All (All EndsBelow) maps.now }
-    ensures { result ≡ spec.got_at process.now maps.now m }
+    ensures { result ≡ loaded.got_at process.now maps.now m }
 {
-    let object = object_at(process, m)?;
-    Some(placed(map_of(maps, m), object.got))
+    let object = process.object_at(m)?;
+    Some(placed(map_at(maps, m), object.got))
 }
 
 fn holds_address(entry: &MapEntry, addr: u32) -> bool
@@ -103,22 +101,17 @@ fn holds_address(entry: &MapEntry, addr: u32) -> bool
 fn holds(load_map: &[MapEntry], addr: u32) -> bool
     ensures { result ≡ list_any (λ e. is_in e.addr e.memsz addr) load_map.now }
 {
-    for entry in load_map {
-        if holds_address(entry, addr) {
-            return true;
-        }
-    }
-    false
+    load_map.iter().any(|entry| holds_address(entry, addr))
 }
 
-fn lies_in(maps: &[LoadMap], addr: u32, m: u32) -> bool
+fn lies_in(maps: &[MapEntries], addr: u32, m: u32) -> bool
     ensures { result ≡ spec.lies_in maps.now addr m }
 {
-    holds(map_of(maps, m), addr)
+    holds(map_at(maps, m), addr)
 }
 
 /// The first module of a number below `count` that lies at an address.
-fn first_at(maps: &[LoadMap], addr: u32, count: u32) -> Option<u32>
+fn first_at(maps: &[MapEntries], addr: u32, count: u32) -> Option<u32>
     ensures { result ≡ find (spec.lies_in maps.now addr) (range_with_len 0 count) }
 {
     for m in 0..count {
@@ -127,13 +120,4 @@ fn first_at(maps: &[LoadMap], addr: u32, count: u32) -> Option<u32>
         }
     }
     None
-}
-
-fn has_inits(inits: &Inits) -> bool
-    ensures { result ≡ spec.has_inits inits.now }
-{
-    inits.init.is_some()
-        || inits.fini.is_some()
-        || inits.init_array.is_some()
-        || inits.fini_array.is_some()
 }

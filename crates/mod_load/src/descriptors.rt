@@ -4,7 +4,7 @@ ghost use Rattle.std.specs.Prelude.{◌≡◌, ◌≢◌, ◌∷◌, [], ◌+◌
 ghost use Rattle.std.specs.FinMap.{get};
 ghost use Rattle.elf_model.specs.declared.func.Func.{Func};
 ghost use Rattle.func_desc.specs.Pool.{IsSlot, free_slots};
-ghost use Rattle.mod_load.specs.Entering.{AreEntered, AreNext, CanBeAdopted};
+ghost use Rattle.mod_load.specs.parts.EnteredAddresses.{AreEntered, AreNext, CanBeAdopted};
 
 use elf_model::Func;
 use func_desc::DescPool;

@@ -4,13 +4,16 @@
 mod accessors;
 mod descriptors;
 mod loader;
+mod program;
 mod slots;
 mod tables;
 #[cfg(test)]
 mod tests;
 
 pub use load_model::{
-    LoadErr, LoadRefusal, MAX_MODULES, MemPlan, PlaceLine, Places, Process, SlotPair, THREADS,
+    LoadErr, LoadRefusal, MAX_MODULES, MemPlan, PlaceLine, Places, SlotPair, SymbolicProcess,
+    THREADS,
 };
 pub use load_state::GroupPlan;
 pub use loader::Loader;
+pub use program::load_program;

@@ -10,11 +10,11 @@ use fd_base::{Memory, Name, Seq, Store};
 use func_desc::DescPool;
 use guest_mem::Guest;
 use load_memory::new_memory;
-use load_model::{DESCRIPTORS, LoadErr, MAX_MODULES, MemPlan, Process, SlotPair};
+use load_model::{DESCRIPTORS, LoadErr, MAX_MODULES, Maps, MemPlan, SlotPair, SymbolicProcess};
 use load_places::{put_descriptors, put_modules};
-use load_plan::{Standing, plan_group};
-use load_process::{join, name_at, new_process};
-use load_state::{GroupPlan, Maps};
+use load_plan::{Request, Standing, plan_group};
+use load_process::{join, new_process};
+use load_state::GroupPlan;
 use placement::Ranges;
 use std::alloc::Global;
 use std::marker::Model;
@@ -25,7 +25,7 @@ use symbol_scope::Tables;
 pub struct Loader {
     alloc: Global,
     pub(crate) plan: MemPlan,
-    pub(crate) process: Process,
+    pub(crate) process: SymbolicProcess,
     pub(crate) maps: Maps,
     pub(crate) ranges: Ranges,
     pub(crate) pool: DescPool,
@@ -37,10 +37,10 @@ pub struct Loader {
 impl Model for Loader {
     ghost use Rattle.std.specs.Coded.{codes};
     ghost use Rattle.func_desc.specs.Functions.{addr_map_code};
-    ghost use Rattle.load_state.specs.Loaded.{State};
-    ghost use Rattle.mod_load.specs.Fit.{IsFit};
+    ghost use Rattle.load_state.specs.Loaded.{LoaderState};
+    ghost use Rattle.mod_load.specs.parts.Fit.{IsFit};
 
-    ghost Value = { State };
+    ghost Value = { LoaderState };
 
     ghost coded = { Prim.hlevel (codes, addr_map_code) };
 
@@ -54,28 +54,23 @@ impl Model for Loader {
 }
 
 impl Loader {
-    ghost use Rattle.std.specs.Prelude.{◌≡◌, ℕ, ◌-◌, ◌≤◌, false, IfErr, IfOk, option_map};
-    ghost use Rattle.guest_mem.specs.Memory.{byte_at};
-    ghost use Rattle.load_model.specs.declared.layout.TheConstants.{RESOLVER, STUBS_END};
+    ghost use Rattle.std.specs.Prelude.{◌≡◌, ◌≤◌, false, IfErr, IfOk, option_map};
     ghost use Rattle.load_model.specs.Explains.{Explains};
-    ghost use Rattle.load_model.specs.Layout.{is_in};
     ghost use Rattle.load_model.specs.Plan.{Fits};
     ghost use Rattle.load_model.specs.Process.{live_at};
-    ghost use Rattle.load_state.specs.Accepts.{IsPlan};
+    ghost use Rattle.load_state.specs.Accepted.{IsPlan};
     ghost use Rattle.load_state.specs.Committed.{IsCommitted};
     ghost use Rattle.load_state.specs.Consistent.{IsConsistent};
     ghost use Rattle.load_state.specs.Loaded.{IsUnchanged};
-    ghost use Rattle.load_state.specs.Loading.{IsStart};
+    ghost use Rattle.load_state.specs.ProgramLoad.{IsNew};
     ghost use Rattle.load_state.specs.Refused.{IsRefused};
     ghost use Rattle.load_state.specs.Slots.{slot_pair_of};
-    ghost use Rattle.mod_load.specs.Ready.{MayCommit};
+    ghost use Rattle.mod_load.specs.parts.ReadyPlans.{MayCommit};
 
     /// A process without modules over a memory plan that fits. All of the guest's memory is taken here.
     pub fn new(alloc: Global, plan: &MemPlan) -> Result<Loader, Memory>
         requires { Fits plan.now }
-        ensures start { IfOk result (λ l. IsStart plan.now l.loaded) }
-        ensures clear { IfOk result (λ l. (a : ℕ) → is_in RESOLVER (STUBS_END - RESOLVER) a ≡ false → byte_at l.loaded.memory a ≡ 0) }
-        ensures consistent { IfOk result (λ l. IsConsistent l.loaded) }
+        ensures { IfOk result (λ l. IsNew plan.now l.loaded) }
     {
         let process = new_process(alloc)?;
         let maps = no_maps(alloc)?;
@@ -108,7 +103,8 @@ impl Loader {
         requires eager { lazy ≡ false }
         ensures plan { IfOk result (IsPlan self.old.loaded (S.files store.old) root.now global) }
         ensures ready { IfOk result (MayCommit self.new) }
-        ensures error { IfErr result (Explains (IsRefused self.old.loaded (S.files store.old) root.now) (S.faults store.old) (S.faults store.new)) }
+        ensures error { IfErr result (Explains (IsRefused self.old.loaded (S.files store.old) root.now)
+            (S.faults store.old) (S.faults store.new)) }
         ensures stays { IsUnchanged self.old self.new }
         ensures consistent { IsConsistent self.new.loaded }
         ensures files { S.files store.new ≡ S.files store.old }
@@ -118,19 +114,18 @@ impl Loader {
         self.guest.whole();
         let mut tables = tables_or_new(self.alloc, self.tables.take(), &self.process)?;
         let standing = Standing {
+            alloc: self.alloc,
             plan: &self.plan,
             process: &self.process,
             maps: self.maps.as_slice(),
         };
         let plan = plan_group(
-            self.alloc,
             &standing,
             &mut self.ranges,
             &mut tables,
             &mut self.pool,
             store,
-            root,
-            global,
+            &Request { root, global },
         );
         self.tables = Some(tables);
         plan
@@ -190,9 +185,10 @@ impl Loader {
 
     /// The name of a live module.
     pub fn module_name(&self, m: u32) -> Option<&Name>
-        ensures { option_map (λ name. name.now) result ≡ option_map (λ live. live.name) (live_at self.now.loaded.process m) }
+        ensures { option_map (λ name. name.now) result
+            ≡ option_map (λ live. live.name) (live_at self.now.loaded.process m) }
     {
-        name_at(&self.process, m)
+        self.process.name_at(m)
     }
 }
 

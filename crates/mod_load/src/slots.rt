@@ -2,27 +2,15 @@
 
 ghost use Rattle.std.specs.Prelude.{◌≡◌, ℕ, ◌+◌, ◌^◌, ◌<◌, ◌≤◌, All, length};
 ghost use Rattle.guest_mem.specs.Memory.{byte_at};
-ghost use Rattle.load_image.specs.Bounds.{EndsBelow};
+ghost use Rattle.load_map.specs.parts.IsLoadMap.{EndsBelow};
 ghost use Rattle.load_model.specs.declared.words.SlotPair.{SlotPair};
-ghost use Rattle.load_state.specs.Loaded.{map_at};
+ghost use Rattle.load_map.specs.Maps.{map_at};
 ghost use Rattle.load_state.specs.Slots.{slot_pair_of};
-ghost use Rattle.mod_load.specs.Slots.{HasSlots, HasWordAt, IsFilled};
+ghost use Rattle.mod_load.specs.parts.SlotWords.{HasSlots, HasWordAt, IsFilled};
 
-use fd_base::MapEntry;
 use guest_mem::Guest;
-use load_image::{LoadMap, placed};
-use load_model::{Process, SlotPair};
-use load_process::object_at;
-
-/// The load map of a module, and no entry for a number that has none.
-pub(crate) fn map_of(maps: &[LoadMap], m: u32) -> &[MapEntry]
-    ensures { result.now ≡ map_at maps.now m }
-{
-    match maps.get(m as usize) {
-        Some(map) => map.as_slice(),
-        None => &[],
-    }
-}
+use load_map::{MapEntry, map_at, placed};
+use load_model::{MapEntries, SlotPair, SymbolicProcess};
 
 /// The little-endian word at an address, whatever it is mapped as.
 fn word_at(guest: &Guest, addr: u32) -> u32
@@ -53,8 +41,8 @@ fn pair_at(guest: &Guest, addr: u32) -> SlotPair
 
 /// Slot `k` of module `m`, by its words in memory.
 pub(crate) fn slot_pair(
-    process: &Process,
-    maps: &[LoadMap],
+    process: &SymbolicProcess,
+    maps: &[MapEntries],
     guest: &Guest,
     m: u32,
     k: u32,
@@ -63,8 +51,8 @@ pub(crate) fn slot_pair(
     requires filled { HasSlots process.now maps.now guest.now }
     ensures { result ≡ slot_pair_of process.now maps.now m k }
 {
-    let object = object_at(process, m)?;
+    let object = process.object_at(m)?;
     let slot = object.jmprels.as_slice().get(k as usize)?;
-    let addr = placed(map_of(maps, m), slot.site);
+    let addr = placed(map_at(maps, m), slot.site);
     Some(pair_at(guest, addr))
 }

@@ -2,31 +2,30 @@
 
 ghost use Rattle.std.specs.Prelude.{◌≡◌, ◌+◌, ◌<◌, ◌≤◌, length, IfOk, IfSome, OnOk};
 ghost use Rattle.symbol_scope.specs.declared.tables.TheConstants.{MAX_MODULES};
-ghost use Rattle.load_plan.specs.Linking.{HasFewSymbols};
-ghost use Rattle.load_tables.specs.Tables.{HasTables};
-ghost use Rattle.mod_load.specs.Tables.{HasTablesBelow};
+ghost use Rattle.load_plan.specs.parts.LinkedLoad.{HasFewSymbols};
+ghost use Rattle.load_plan.specs.parts.Tables.{HasTables};
+ghost use Rattle.mod_load.specs.parts.Tables.{HasTablesBelow};
 
 use fd_base::Memory;
-use load_model::{MAX_MODULES, Process};
-use load_process::live_at;
+use load_model::{MAX_MODULES, SymbolicProcess};
 use std::alloc::Global;
 use symbol_scope::Tables;
 
 /// Adds the table of the module of this number, if it is live.
-fn add_live(tables: &mut Tables, process: &Process, m: u32) -> Result<(), Memory>
+fn add_live(tables: &mut Tables, process: &SymbolicProcess, m: u32) -> Result<(), Memory>
     requires number { m < MAX_MODULES }
     requires few { HasFewSymbols process.now }
     requires before { HasTablesBelow process.now m tables.old }
     ensures { OnOk result (HasTablesBelow process.now (m + 1) tables.new) }
 {
-    match live_at(process, m) {
+    match process.live_at(m) {
         Some(live) => tables.add(m, &live.name, &live.object),
         None => Ok(()),
     }
 }
 
 /// The tables of the live modules.
-fn live_tables(alloc: Global, process: &Process) -> Result<Tables, Memory>
+fn live_tables(alloc: Global, process: &SymbolicProcess) -> Result<Tables, Memory>
     requires sizes { length process.now.modules ≤ MAX_MODULES }
     requires few { HasFewSymbols process.now }
     ensures { IfOk result (HasTables process.now) }
@@ -42,7 +41,7 @@ fn live_tables(alloc: Global, process: &Process) -> Result<Tables, Memory>
 pub(crate) fn tables_or_new(
     alloc: Global,
     tables: Option<Tables>,
-    process: &Process,
+    process: &SymbolicProcess,
 ) -> Result<Tables, Memory>
     requires tables { IfSome tables (HasTables process.now) }
     requires sizes { length process.now.modules ≤ MAX_MODULES }

@@ -1,7 +1,8 @@
 -- Held ranges in another order, and ranges that meet nowhere.
-use Rattle.std.proofs.Common.{◌≡◌, ℕ, zero, suc, Option, Some, None, MatchOption, ◌<◌, ◌≤◌, ◌⊎◌, inl, inr, true, false, cond, ltb, List, [], ◌∷◌, ◌++◌, length, get_or, All, Contains, refl, sym, subst, arith}
+use Rattle.std.proofs.Common.{◌≡◌, ℕ, zero, suc, Option, Some, None, MatchOption, ◌≤◌, inl, inr, true, false, cond, ltb, List, [], ◌∷◌, ◌++◌, All, Contains, refl, sym, subst, arith}
 use Rattle.std.proofs.lemmas.List.Elements.{All-nil, All-head, All-tail, All-weaker, All-contains, All-contains_itself, All-push, Contains-append_left, Contains-append_right, Contains-append_cases, Contains-push, Contains-push_cases}
 use Rattle.std.proofs.lemmas.List.{append-nil, append_assoc}
+use Rattle.fd_base.proofs.Members.{contains_first, contains_later, first_or_later}
 use Rattle.placement.specs.declared.item.Held.{Held}
 use Rattle.placement.specs.declared.item.Item.{Item}
 use Rattle.placement.specs.Legal.{Apart, IsLegal, Chosen}
@@ -60,19 +61,6 @@ fails_same low high xs ys (item ∷ items) zero same f =
     none_same item.at (IsLegal low high xs item) (IsLegal low high ys item) (λ b. legal_among low high b ys xs item (λ r. (same r).0)) f
 fails_same low high xs ys (item ∷ items) (suc n) same f =
     (f.0, chosen_same low high f.0 xs ys item same f.1, fails_same low high _ _ items n (same_pushed xs ys (range_at item f.0) same) f.2)
-
-contains_first : (first r : Held) (held : List Held) → first ≡ r → Contains (first ∷ held) r
-contains_first first r held is = (zero, omega arith, is)
-
-contains_later : (first r : Held) (held : List Held) → Contains held r → Contains (first ∷ held) r
-contains_later first r held here = (suc here.0, omega (arith, here.1), here.2)
-
-first_or_later : (first r : Held) (held : List Held) → Contains (first ∷ held) r → (first ≡ r) ⊎ Contains held r
-first_or_later first r held here = by_place here.0 here.1 here.2
-  where
-    by_place : (k : ℕ) → k < suc (length held) → get_or (first ∷ held) k r ≡ r → (first ≡ r) ⊎ Contains held r
-    by_place zero within is = inl is
-    by_place (suc k) within is = inr (k, omega arith, is)
 
 -- a range is among those with a new one exactly where it was held or is the new one
 held_or_new : (new r : Held) (held : List Held) → Contains (held_with new held) r → Contains (held ++ new ∷ []) r

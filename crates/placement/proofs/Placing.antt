@@ -5,7 +5,7 @@ use Rattle.std.proofs.lemmas.List.{append-nil, drop_all}
 use Rattle.placement.specs.declared.item.Held.{Held}
 use Rattle.placement.specs.declared.item.Item.{Item}
 use Rattle.placement.specs.Legal.{IsLegal, Chosen, HasNoRoom}
-use Rattle.placement.specs.Placed.{Placed, FailsAt, range_at, IsWithin}
+use Rattle.placement.specs.Placed.{Placed, FailsAt, range_at, LiesWithin}
 
 -- the items from i on are item i and the items behind it
 pub from_place : (items : List Item) (i : ℕ) (d : Item) → i < length items → drop i items ≡ get_or items i d ∷ drop (i + 1) items
@@ -100,7 +100,7 @@ placed_or_fails low high held (item ∷ items) (x ∷ xs) (suc n) p f =
     let P : ℕ → Type 0 = λ a. FailsAt low high (held ++ range_at item a ∷ []) items n in
     placed_or_fails low high _ items xs n p.1 (subst P e f.2)
 
-pub placed_within : (low high : ℕ) (held : List Held) (items : List Item) (addrs : List ℕ) → Placed low high held items addrs → AllZip (IsWithin low high) items addrs
+pub placed_within : (low high : ℕ) (held : List Held) (items : List Item) (addrs : List ℕ) → Placed low high held items addrs → AllZip (LiesWithin low high) items addrs
 placed_within low high held [] [] p = tt
 placed_within low high held [] (at ∷ addrs) p = absurd p
 placed_within low high held (item ∷ items) [] p = absurd p

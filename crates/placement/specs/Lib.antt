@@ -1,4 +1,4 @@
 pub mod Legal
 pub mod Placed
 pub mod Space
-pub mod Refusals
+pub mod parts

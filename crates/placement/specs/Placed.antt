@@ -24,5 +24,5 @@ FailsAt low high held (item ∷ items) (suc n) =
     (at : ℕ) × Chosen low high held item at × FailsAt low high (held ++ range_at item at ∷ []) items n
 
 -- the item lies between these addresses
-abbrev pub IsWithin : ℕ → ℕ → Item → ℕ → Type 0
-IsWithin low high item at = (low ≤ at) × (at + item.memsz ≤ high)
+abbrev pub LiesWithin : ℕ → ℕ → Item → ℕ → Type 0
+LiesWithin low high item at = (low ≤ at) × (at + item.memsz ≤ high)

@@ -2,9 +2,9 @@
 
 ghost use Rattle.std.specs.Prelude.{◌≡◌, ◌+◌, ◌-◌, ◌^◌, ◌<◌, ◌≤◌, [], length, All, vec_len, vec_capacity, IfOk, IfErr, OnOk, insert, filter, not, ◌==◌};
 ghost use Rattle.std.specs.List.{AllZip};
-ghost use Rattle.placement.specs.Placed.{IsWithin, Placed};
+ghost use Rattle.placement.specs.Placed.{LiesWithin, Placed};
 ghost use Rattle.placement.specs.Space.{Space, IsOwned, held_with, all_held, IsPlaced};
-ghost use Rattle.placement.specs.Refusals.{Refuses};
+ghost use Rattle.placement.specs.parts.Refusals.{RefusesItems};
 
 use crate::item::{Addrs, Held, Item, Items};
 use crate::search::address_of;
@@ -85,9 +85,9 @@ impl Ranges {
         requires few { length self.old.held + length items.now < 2 ^ 32 }
         requires sizes { All (λ item. 0 < item.memsz) items.now }
         ensures placed { IfOk result (IsPlaced self.old items.now) }
-        ensures inside { IfOk result (AllZip (IsWithin self.old.low self.old.high) items.now) }
+        ensures inside { IfOk result (AllZip (LiesWithin self.old.low self.old.high) items.now) }
         ensures count { IfOk result (λ addrs. length addrs ≡ length items.now) }
-        ensures refused { IfErr result (Refuses self.old.low self.old.high self.old.held items.now) }
+        ensures refused { IfErr result (RefusesItems self.old.low self.old.high self.old.held items.now) }
         ensures room { OnOk result (length items.now ≤ self.new.room) }
         ensures stays { self.new ≡ record self.old { room = self.new.room } }
     {
@@ -183,9 +183,9 @@ fn addresses(
     requires few { length items.now < 2 ^ 32 }
     requires sizes { All (λ item. 0 < item.memsz) items.now }
     ensures placed { IfOk result (λ addrs. Placed low high taken.old.items items.now addrs.items) }
-    ensures inside { IfOk result (λ addrs. AllZip (IsWithin low high) items.now addrs.items) }
+    ensures inside { IfOk result (λ addrs. AllZip (LiesWithin low high) items.now addrs.items) }
     ensures count { IfOk result (λ addrs. length addrs.items ≡ length items.now) }
-    ensures refused { IfErr result (Refuses low high taken.old.items items.now) }
+    ensures refused { IfErr result (RefusesItems low high taken.old.items items.now) }
 {
     let mut addrs = Vec::new(*taken.allocator());
     for (i, item) in items.iter().enumerate() {

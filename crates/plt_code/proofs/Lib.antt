@@ -1,9 +1,9 @@
-pub mod Within
-pub mod Offsets
-pub mod Slots
 pub mod Called
-pub mod Resolved
-pub mod Listed
-pub mod Rising
 pub mod Examples
+pub mod Listed
+pub mod Offsets
+pub mod Resolved
+pub mod Rising
+pub mod Slots
 pub mod Whole
+pub mod Within

@@ -6,13 +6,14 @@ use Rattle.std.proofs.lemmas.Bool.{cases_lt}
 use Rattle.std.proofs.lemmas.List.Elements.{All-nil, All-push, Contains-push, Contains-append_left}
 use Rattle.std.proofs.lemmas.List.Quantifiers.{all_pairs_push}
 use Rattle.std.proofs.lemmas.Option.{slice_get_within, get_or_from_slice_get}
+use Rattle.fd_base.proofs.Lists.{all_at, pairs_at}
 use Rattle.elf_model.specs.declared.object.Object.{Object}
 use Rattle.elf_model.specs.declared.object.Segment.{Segment}
-use Rattle.elf_model.specs.Sound.{IsSound, IsSized}
+use Rattle.elf_model.specs.Sound.{IsSound, IsSized, SegmentsApart}
 use Rattle.plt_code.specs.declared.listing.Entry.{Entry}
 use Rattle.plt_code.specs.Entries.{IsPltEntry, IsListing}
-use Rattle.plt_code.specs.Scanned.{ListsBelow, IsParted, IsText, IsLowest, IsNext, IsExecutable}
-use Rattle.plt_code.proofs.Within.{in_code, one_segment, of_each, of_pair}
+use Rattle.plt_code.specs.parts.Scanned.{ListsBelow, IsParted, IsText, IsLowest, IsNext, IsExecutable}
+use Rattle.plt_code.proofs.Within.{in_code, one_segment}
 use Rattle.plt_code.proofs.Called.{one_slot}
 
 raised : (es : List Entry) (a b : ℕ) → a ≤ b → All (λ e. e.at < a) es → All (λ e. e.at < b) es
@@ -71,7 +72,7 @@ pub in_text : (o : Object) (s : Segment) (at slot : ℕ) → IsSound o → IsTex
     → at + 20 ≤ s.vaddr + length s.filled
 in_text o s at slot sound text e low high =
     let c = in_code o.segments at 20 e.code in
-    let size = of_each IsSized o.segments c.place c.segment sound.sized c.held in
+    let size = all_at IsSized o.segments c.place c.segment sound.sized c.held in
     let same : c.segment ≡ s = one_segment o.segments c.place text.place at c.segment s sound.apart c.held text.held c.begin (omega (arith, c.end, size.filled)) low high in
     subst (λ (t : Segment). at + 20 ≤ t.vaddr + length t.filled) same c.end
 
@@ -94,7 +95,7 @@ entry_segment : (o : Object) (bound at slot : ℕ) → IsSound o → IsParted o.
     → (k : ℕ) × (t : Segment) × ((slice_get o.segments k ≡ Some t) × IsExecutable t × (bound ≤ t.vaddr) × (t.vaddr ≤ at))
 entry_segment o bound at slot sound parted e le =
     let c = in_code o.segments at 20 e.code in
-    let size = of_each IsSized o.segments c.place c.segment sound.sized c.held in
+    let size = all_at IsSized o.segments c.place c.segment sound.sized c.held in
     elim (parted c.place c.segment c.held c.executable) [
       | inl below ↦ absurd (omega (arith, c.end, size.filled))
       | inr above ↦ (c.place, c.segment, (c.held, c.executable, above, c.begin))
@@ -122,11 +123,11 @@ parted_more o bound place sound parted l k t held x =
   where
     side : (l.segment).vaddr ≤ t.vaddr → (t.vaddr + t.memsz ≤ (l.segment).vaddr + (l.segment).memsz) ⊎ ((l.segment).vaddr + (l.segment).memsz ≤ t.vaddr)
     side up =
-        let size = of_each IsSized o.segments k t sound.sized held in
+        let size = all_at IsSized o.segments k t sound.sized held in
         elim (cases_lt k place) [
-          | inl lt ↦ elim (of_pair o.segments k place t l.segment sound.apart lt held l.held) [ inl a ↦ absurd (omega (arith, size.some)) | inr b ↦ inr b ]
+          | inl lt ↦ elim (pairs_at SegmentsApart o.segments k place t l.segment sound.apart lt held l.held) [ inl a ↦ absurd (omega (arith, size.some)) | inr b ↦ inr b ]
           | inr le ↦ elim (cases_lt place k) [
-            | inl lt ↦ elim (of_pair o.segments place k l.segment t sound.apart lt l.held held) [ inl a ↦ inr a | inr b ↦ absurd (omega (arith, size.some)) ]
+            | inl lt ↦ elim (pairs_at SegmentsApart o.segments place k l.segment t sound.apart lt l.held held) [ inl a ↦ inr a | inr b ↦ absurd (omega (arith, size.some)) ]
             | inr ge ↦
                 let same : k ≡ place = omega arith in
                 let both : Some t ≡ Some l.segment = sym held ∙ ap (slice_get o.segments) same ∙ l.held in
@@ -201,5 +202,5 @@ parts o bound place s sound parted next =
 pub rises : (o : Object) (bound place : ℕ) (s : Segment) → IsSound o → ReadsNext o bound place s → (bound ≤ s.vaddr) × ((0 < s.memsz) × (s.vaddr + s.memsz < 2 ^ 32))
 rises o bound place s sound next =
     let l = next.lowest in
-    let size = of_each IsSized o.segments place l.segment sound.sized l.held in
+    let size = all_at IsSized o.segments place l.segment sound.sized l.held in
     subst (λ (t : Segment). (bound ≤ t.vaddr) × ((0 < t.memsz) × (t.vaddr + t.memsz < 2 ^ 32))) next.same (l.above, (size.some, size.end))

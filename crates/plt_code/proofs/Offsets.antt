@@ -1,8 +1,8 @@
 -- The sites of slots, and their offsets from the GOT.
-use Rattle.std.proofs.Common.{◌≡◌, ℕ, ◌+◌, ◌^◌, ◌<◌, ◌&&◌, List, [], ◌∷◌, ◌++◌, length, map, get_or, Some, All, AllPairs, refl, sym, ap, ◌∙◌, subst, inl, inr, arith, length-append}
+use Rattle.std.proofs.Common.{◌≡◌, ℕ, ◌+◌, ◌^◌, ◌<◌, ◌&&◌, [], ◌∷◌, ◌++◌, length, map, get_or, Some, All, AllPairs, sym, ap, ◌∙◌, subst, inl, inr, arith}
 use Rattle.std.specs.Prelude.{nat_le, unwrap_or}
 use Rattle.std.proofs.lemmas.Bool.{and_parts, leb-true, cases_lt}
-use Rattle.std.proofs.lemmas.List.{get_or_append_left, get_or-append_right, length-map, get_or-map}
+use Rattle.std.proofs.lemmas.List.{length-map, get_or-map}
 use Rattle.std.proofs.lemmas.Option.{slice_get_within, get_or_from_slice_get}
 use Rattle.elf_model.specs.declared.constants.TheConstants.{PF_W, R_ARM_FUNCDESC_VALUE}
 use Rattle.elf_model.specs.declared.object.Object.{Object}
@@ -12,43 +12,22 @@ use Rattle.elf_model.specs.Segments.{has_flag}
 use Rattle.elf_model.specs.Relocations.{got_header, word_site, site_size}
 use Rattle.elf_model.specs.Places.{site_of_rel, filled_ranges, spans, slot_of}
 use Rattle.elf_model.specs.Sound.{IsSound, IsSized, IsInPlace, RangesApart}
-use Rattle.plt_code.specs.Entries.{minus}
-use Rattle.plt_code.proofs.Within.{found_at, of_each}
-
--- ---- parts of lists
-
-all_left : {X : Type 0} (P : X → Type 0) (xs ys : List X) → All P (xs ++ ys) → All P xs
-all_left P xs ys all k d lt =
-    subst P (get_or_append_left xs ys d k lt) (all k d (omega (arith, length-append xs ys)))
-
-all_right : {X : Type 0} (P : X → Type 0) (xs ys : List X) → All P (xs ++ ys) → All P ys
-all_right P xs ys all k d lt =
-    let at : get_or (xs ++ ys) (length xs + k) d ≡ get_or ys k d = get_or-append_right xs ys (length xs) (length xs + k) d refl (omega arith) ∙ ap (λ n. get_or ys n d) (omega arith) in
-    subst P at (all (length xs + k) d (omega (arith, length-append xs ys)))
-
-pairs_left : {X : Type 0} (R : X → X → Type 0) (xs ys : List X) → AllPairs R (xs ++ ys) → AllPairs R xs
-pairs_left R xs ys all i j d lt within =
-    let at_i : get_or (xs ++ ys) i d ≡ get_or xs i d = get_or_append_left xs ys d i (omega arith) in
-    let at_j : get_or (xs ++ ys) j d ≡ get_or xs j d = get_or_append_left xs ys d j within in
-    subst (λ x. R x (get_or xs j d)) at_i (subst (R (get_or (xs ++ ys) i d)) at_j (all i j d lt (omega (arith, length-append xs ys))))
-
-pairs_right : {X : Type 0} (R : X → X → Type 0) (xs ys : List X) → AllPairs R (xs ++ ys) → AllPairs R ys
-pairs_right R xs ys all i j d lt within =
-    let at : (k : ℕ) → get_or (xs ++ ys) (length xs + k) d ≡ get_or ys k d = λ k. get_or-append_right xs ys (length xs) (length xs + k) d refl (omega arith) ∙ ap (λ n. get_or ys n d) (omega arith) in
-    subst (λ x. R x (get_or ys j d)) (at i) (subst (R (get_or (xs ++ ys) (length xs + i) d)) (at j) (all (length xs + i) (length xs + j) d (omega arith) (omega (arith, length-append xs ys))))
+use Rattle.fd_base.specs.Sums.{minus}
+use Rattle.fd_base.proofs.Finding.{any_at}
+use Rattle.fd_base.proofs.Lists.{all_at, all_back, all_front, pairs_back, pairs_front}
 
 -- ---- sites of slots
 
 -- what holds of all filled ranges holds of the slots' sites, and of the header of the GOT
 slot_sites : (P : Site → Type 0) (o : Object) → All P (filled_ranges o) → All P (map site_of_rel o.jmprels)
 slot_sites P o all =
-    all_right P (got_header o.got ∷ map site_of_rel o.rels) (map site_of_rel o.jmprels)
-    (all_left P (got_header o.got ∷ map site_of_rel o.rels ++ map site_of_rel o.jmprels) (map word_site (unwrap_or o.fixups [])) all)
+    all_back P (got_header o.got ∷ map site_of_rel o.rels) (map site_of_rel o.jmprels)
+    (all_front P (got_header o.got ∷ map site_of_rel o.rels ++ map site_of_rel o.jmprels) (map word_site (unwrap_or o.fixups [])) all)
 
 slot_pairs : (R : Site → Site → Type 0) (o : Object) → AllPairs R (filled_ranges o) → AllPairs R (map site_of_rel o.jmprels)
 slot_pairs R o all =
-    pairs_right R (got_header o.got ∷ map site_of_rel o.rels) (map site_of_rel o.jmprels)
-    (pairs_left R (got_header o.got ∷ map site_of_rel o.rels ++ map site_of_rel o.jmprels) (map word_site (unwrap_or o.fixups [])) all)
+    pairs_back R (got_header o.got ∷ map site_of_rel o.rels) (map site_of_rel o.jmprels)
+    (pairs_front R (got_header o.got ∷ map site_of_rel o.rels ++ map site_of_rel o.jmprels) (map word_site (unwrap_or o.fixups [])) all)
 
 site_at : (o : Object) (k : ℕ) (r : Rel) (d : Site) → slot_of o k ≡ Some r → (k < length (map site_of_rel o.jmprels)) × (get_or (map site_of_rel o.jmprels) k d ≡ site_of_rel r)
 site_at o k r d is =
@@ -60,10 +39,10 @@ site_at o k r d is =
 -- a range in place ends below 2^32
 ends_below : (o : Object) (s : Site) → IsSound o → IsInPlace o.segments s → s.addr + s.size < 2 ^ 32
 ends_below o s sound in_place =
-    let one = found_at (λ t. has_flag t.flags PF_W && spans t s.addr s.size) o.segments in_place.writable in
+    let one = any_at (λ t. has_flag t.flags PF_W && spans t s.addr s.size) o.segments in_place.writable in
     let parts = and_parts (has_flag (one.1).flags PF_W) (spans one.1 s.addr s.size) one.2.1 in
     let ends = and_parts (nat_le (one.1).vaddr s.addr) (nat_le (s.addr + s.size) ((one.1).vaddr + (one.1).memsz)) parts.1 in
-    let size = of_each IsSized o.segments one.0 one.1 sound.sized one.2.0 in
+    let size = all_at IsSized o.segments one.0 one.1 sound.sized one.2.0 in
     omega (arith, leb-true (s.addr + s.size) ((one.1).vaddr + (one.1).memsz) ends.1, size.end)
 
 pub got_small : (o : Object) → IsSound o → o.got + 12 < 2 ^ 32

@@ -8,9 +8,10 @@ use Rattle.elf_model.specs.declared.object.Rel.{Rel}
 use Rattle.elf_model.specs.declared.object.Segment.{Segment}
 use Rattle.elf_model.specs.Places.{file_word, slot_of}
 use Rattle.plt_code.specs.Words.{lazy_words}
-use Rattle.plt_code.specs.Standing.{is_code, stand_at, is_near}
-use Rattle.plt_code.specs.Entries.{is_lazy, is_lazy_from, lazy_at, lazy_place, minus}
-use Rattle.plt_code.specs.Laws.{EntriesStand, LazyCallsStand, LazyStands}
+use Rattle.plt_code.specs.Standing.{is_code_in, stand_at, is_near}
+use Rattle.fd_base.specs.Sums.{minus}
+use Rattle.plt_code.specs.Entries.{is_lazy, is_lazy_from, lazy_at, lazy_place}
+use Rattle.plt_code.specs.parts.Laws.{EntriesStand, LazyCallsStand, LazyStands}
 use Rattle.plt_code.proofs.Within.{has_bytes, has_both}
 use Rattle.plt_code.proofs.Called.{rel_is}
 
@@ -67,7 +68,7 @@ pub record Leads (o : Object) (k z : ℕ) : Type 0 where
   pub there : file_word o.segments rel.site ≡ z
   pub aligned : z % 4 ≡ 0
   pub low : 4 ≤ z
-  pub code : is_code o.segments (z - 4) 20 ≡ true
+  pub code : is_code_in o.segments (z - 4) 20 ≡ true
   pub offset : file_word o.segments (z - 4) ≡ 8 * k
   pub words : stand_at o.segments (z - 4 + 4) lazy_words ≡ true
 
@@ -81,7 +82,7 @@ leads o k z e =
         let here : is_lazy o.segments k z ≡ true = ap (is_lazy o.segments k) (sym h.1) ∙ h.0 in
         let one = and_parts (z % 4 == 0) (nat_le 4 z && is_lazy_from o.segments k (z - 4)) here in
         let two = and_parts (nat_le 4 z) (is_lazy_from o.segments k (z - 4)) one.1 in
-        let three = and_parts (is_code o.segments (z - 4) 20) (stand_at o.segments (z - 4) (8 * k ∷ lazy_words)) two.1 in
+        let three = and_parts (is_code_in o.segments (z - 4) 20) (stand_at o.segments (z - 4) (8 * k ∷ lazy_words)) two.1 in
         let four = and_parts (file_word o.segments (z - 4) == 8 * k) (stand_at o.segments (z - 4 + 4) lazy_words) three.1 in
         record {
           rel = r;

@@ -8,8 +8,8 @@ use Rattle.std.proofs.lemmas.Bool.{cases_lt}
 use Rattle.std.proofs.lemmas.Bool.Decides.{nat_tests}
 use Rattle.std.proofs.lemmas.Option.{slice_get-get_or, get_or_from_slice_get}
 use Rattle.elf_model.specs.declared.object.Rel.{Rel}
-use Rattle.plt_code.specs.Entries.{minus}
-use Rattle.plt_code.specs.Table.{HasSlots}
+use Rattle.fd_base.specs.Sums.{minus}
+use Rattle.plt_code.specs.Table.{HasOffsets}
 
 same_key : (a b : ℕ) → is_eq (nat_cmp a b) ≡ true → a ≡ b
 same_key a b h = grind (arith, nat_tests)
@@ -19,7 +19,7 @@ own_key a = grind (arith, nat_tests)
 
 pub slots_more : (got : ℕ) (slots : List Rel) (k : ℕ) (d : Rel) (table new : BTreeMap ℕ ℕ) → k < length slots
     → ((q : ℕ) → tree.get nat_cmp new q ≡ cond (is_eq (nat_cmp (minus (get_or slots k d).site got) q)) (Some k) (tree.get nat_cmp table q))
-    → HasSlots got slots k table → HasSlots got slots (k + 1) new
+    → HasOffsets got slots k table → HasOffsets got slots (k + 1) new
 slots_more got slots k d table new within updates has = record {
   found = λ l j e. found l j (is_eq (nat_cmp (minus (get_or slots k d).site got) l)) refl (sym (updates l) ∙ e);
   all = λ j r lt is e. elim (cases_lt j k) [

@@ -1,11 +1,16 @@
 //! What holds of entries and of calls of the resolver. A call of one does nothing.
 
-ghost use Rattle.plt_code.specs.Laws.{EntriesStand, OneSlot, OneListing, LazyCallsStand, WholeEntriesAreFound};
+ghost use Rattle.plt_code.specs.parts.Laws.{EntriesStand, SlotsEntered, OneSlot, OneListing, LazyCallsStand, WholeEntriesAreFound};
 
 /// An entry is that of a slot, its words stand in an executable segment, and its slot and the GOT are in one
 /// segment.
 pub fn entries_stand()
     ensures { EntriesStand }
+{}
+
+/// The entry of a slot stands where the slot is entered.
+pub fn slots_entered()
+    ensures { SlotsEntered }
 {}
 
 /// At an address stands at most one slot's entry.

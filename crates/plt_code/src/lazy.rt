@@ -4,7 +4,7 @@ ghost use Rattle.std.specs.Prelude.{◌≡◌, ◌+◌, ◌^◌, ◌<◌, All, s
 ghost use Rattle.elf_model.specs.Sound.{IsSized, IsSound};
 ghost use Rattle.plt_code.specs.Entries as spec;
 
-use crate::standing::{is_code, stand_at};
+use crate::standing::{is_code_in, stand_at};
 use crate::words::{LDR_PC_R9, LDR_R12_L2, LDR_R12_R9, PUSH_R12};
 use elf_model::constants::REL_SIZE;
 use elf_model::{Object, Rel, Segment, file_word};
@@ -19,7 +19,7 @@ fn is_lazy_from(segments: &[Segment], k: u32, v: u32) -> bool
     ensures { result ≡ spec.is_lazy_from segments.now k v }
 {
     let words = [REL_SIZE * k, LDR_R12_L2, PUSH_R12, LDR_R12_R9, LDR_PC_R9];
-    is_code(segments, v, LAZY_SIZE) && stand_at(segments, v, &words)
+    is_code_in(segments, v, LAZY_SIZE) && stand_at(segments, v, &words)
 }
 
 /// Whether slot k's call of the resolver has its first instruction at `z`.

@@ -3,7 +3,7 @@
 ghost use Rattle.std.specs.Prelude.{◌+◌, ◌<◌, length, IfOk};
 ghost use Rattle.elf_model.specs.Sound.{IsSound};
 ghost use Rattle.plt_code.specs.Entries.{IsListing};
-ghost use Rattle.plt_code.specs.Scanned.{IsNext};
+ghost use Rattle.plt_code.specs.parts.Scanned.{IsNext};
 
 use crate::scan::scan;
 use crate::table::slot_table;
@@ -12,10 +12,12 @@ use elf_model::{Object, Segment};
 use fd_base::{Memory, Seq};
 use std::alloc::Global;
 
-/// An entry: the link address of its first word, and the number of its slot.
+/// An entry of the PLT.
 #[derive(Clone, Copy, Debug, PartialEq, Eq)]
 pub struct Entry {
+    /// The link address of its first word.
     pub at: u32,
+    /// The number of its slot: the place of the slot's relocation in DT_JMPREL, counted from 0.
     pub slot: u32,
 }
 

@@ -3,33 +3,28 @@
 ghost use Rattle.std.specs.Prelude.{◌≡◌, ℕ, ◌+◌, ◌%◌, ◌^◌, ◌<◌, true, length, IfSome, IfNone, OnOk};
 ghost use Rattle.elf_model.specs.Sound.{IsSound};
 ghost use Rattle.plt_code.specs.Entries.{IsPltEntry};
-ghost use Rattle.plt_code.specs.Scanned.{ListsBelow, IsText};
+ghost use Rattle.plt_code.specs.parts.Scanned.{ListsBelow, IsText};
 ghost use Rattle.plt_code.specs.Standing as standing;
-ghost use Rattle.plt_code.specs.Table.{HasSlots};
+ghost use Rattle.plt_code.specs.Table.{HasOffsets};
 
 use crate::listing::{Entries, Entry};
-use crate::standing::{is_near, stand_at};
+use crate::standing::{is_near, stands_call};
 use crate::table::SlotTable;
-use crate::words::{ADD_R12_R9, LDR_PC_R12, LDR_R9_R12, LDR_R12_L1};
 use elf_model::{Object, Segment, file_word};
 use fd_base::Memory;
 
 /// The slot whose entry stands at a place of the code.
 fn slot_called_at(o: &Object, table: &SlotTable, at: u32) -> Option<u32>
     requires sound { IsSound o.now }
-    requires slots { HasSlots o.now.got o.now.jmprels (length o.now.jmprels) table.now }
+    requires slots { HasOffsets o.now.got o.now.jmprels (length o.now.jmprels) table.now }
     requires aligned { at % 4 ≡ 0 }
-    requires code { standing.is_code o.now.segments at 20 ≡ true }
+    requires code { standing.is_code_in o.now.segments at 20 ≡ true }
     requires small { at + 20 < 2 ^ 32 }
     ensures entry { IfSome result (λ slot. IsPltEntry o.entry.now at slot) }
     ensures none { IfNone result ((slot : ℕ) → ¬ IsPltEntry o.entry.now at slot) }
 {
     let segments = o.segments.as_slice();
-    if !stand_at(
-        segments,
-        at,
-        &[LDR_R12_L1, ADD_R12_R9, LDR_R9_R12, LDR_PC_R12],
-    ) {
+    if !stands_call(segments, at) {
         return None;
     }
     let slot = *table.get(&file_word(segments, at + 16))?;
@@ -48,7 +43,7 @@ pub(crate) fn scan(
     found: &mut Entries,
 ) -> Result<(), Memory>
     requires sound { IsSound o.now }
-    requires slots { HasSlots o.now.got o.now.jmprels (length o.now.jmprels) table.now }
+    requires slots { HasOffsets o.now.got o.now.jmprels (length o.now.jmprels) table.now }
     requires text { IsText o.now.segments text.now }
     requires listed { ListsBelow o.now text.now.vaddr found.old }
     ensures { OnOk result (ListsBelow o.entry.now (text.now.vaddr + text.now.memsz) found.new) }

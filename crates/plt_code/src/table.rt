@@ -2,7 +2,7 @@
 
 ghost use Rattle.std.specs.Prelude.{◌≤◌, length, IfOk};
 ghost use Rattle.elf_model.specs.declared.constants.TheConstants.{MAX_ENTRIES};
-ghost use Rattle.plt_code.specs.Table.{HasSlots};
+ghost use Rattle.plt_code.specs.Table.{HasOffsets};
 
 use elf_model::Rel;
 use fd_base::Memory;
@@ -15,7 +15,7 @@ pub(crate) type SlotTable = BTreeMap<u32, u32>;
 /// The table of the slots.
 pub(crate) fn slot_table(alloc: Global, got: u32, slots: &[Rel]) -> Result<SlotTable, Memory>
     requires { length slots.now ≤ MAX_ENTRIES }
-    ensures { IfOk result (HasSlots got slots.now (length slots.now)) }
+    ensures { IfOk result (HasOffsets got slots.now (length slots.now)) }
 {
     let mut table = BTreeMap::new(alloc);
     for (k, slot) in slots.iter().enumerate() {

@@ -1,7 +1,7 @@
 //! Values from outside: the words of an entry, and entries in an object.
 
 use crate::example::{CODE, DATA, object, put_words};
-use crate::{Entry, entries, entry_words, lazy_place};
+use crate::{Entry, entries, entry_words, lazy_place, slot_entered};
 use std::test::Fail;
 
 const NO_CODE: [u8; 0] = [];
@@ -45,6 +45,9 @@ fn an_entry_and_its_lazy_call(rt: HostRuntime) -> Result<(), Fail> {
     let o = object(rt.alloc(), CODE, &text(), &NO_CODE, &data())?;
     let found = entries(rt.alloc(), &o)?;
     assert_eq!(rt; found.as_slice(), [Entry { at: 0x200, slot: 0 }].as_slice());
+    assert_eq!(rt; slot_entered(&o, 0x200), Some(0));
+    assert_eq!(rt; slot_entered(&o, 0x218), None);
+    assert_eq!(rt; slot_entered(&o, 0xffff_fffc), None);
     assert_eq!(rt; lazy_place(&o, 0), Some(0x218));
     assert_eq!(rt; lazy_place(&o, 1), None);
     assert_eq!(rt; lazy_place(&o, 2), None);
@@ -70,6 +73,9 @@ fn entries_rise_over_segments(rt: HostRuntime) -> Result<(), Fail> {
         },
     ];
     assert_eq!(rt; found.as_slice(), rows.as_slice());
+    for entry in rows {
+        assert_eq!(rt; slot_entered(&o, entry.at), Some(entry.slot));
+    }
     assert_eq!(rt; lazy_place(&o, 0), Some(0x218));
     assert_eq!(rt; lazy_place(&o, 1), Some(0x258));
     Ok(())
@@ -93,6 +99,7 @@ fn no_entries(rt: HostRuntime) -> Result<(), Fail> {
         assert!(rt; low.len() <= 0x400);
         let o = object(rt.alloc(), flags, low, &NO_CODE, &data())?;
         let found = entries(rt.alloc(), &o)?;
+        assert_eq!(rt; slot_entered(&o, 0x200).is_some(), is_entry);
         assert_eq!(rt;
             found.as_slice(),
             if is_entry {

@@ -1,6 +1,15 @@
-//! A run of processes, and what it is asked for.
+//! A process that runs: its start from a job, the turns of its threads, and the run of a job to its end.
 #![tactic(auto)]
 
-mod job;
+mod begin;
+mod course;
+mod end;
+mod process;
+mod taking;
 
-pub use job::{Job, Turn, Turns};
+pub use course::run;
+pub use end::RunEnd;
+pub use process::Process;
+
+#[cfg(test)]
+mod tests;

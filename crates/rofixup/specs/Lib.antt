@@ -1,2 +1,2 @@
 pub mod Fixups
-pub mod Laws
+pub mod parts

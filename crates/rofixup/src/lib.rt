@@ -5,7 +5,7 @@ mod laws;
 mod list;
 mod placing;
 
-pub use laws::lists_read_back;
+pub use laws::{lists_read_back, values_are_placed};
 pub use list::emit;
 pub use placing::{Outside, apply};
 

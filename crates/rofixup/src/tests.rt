@@ -25,7 +25,7 @@ fn two_segments(alloc: Global) -> Result<LoadMap, Fail> {
 fn values_are_replaced(rt: HostRuntime) -> Result<(), Fail> {
     let map = two_segments(rt.alloc())?;
     let mut values = [0x8, 0x10010];
-    assert_eq!(rt; apply(&map, &mut values), Ok(()));
+    assert_eq!(rt; apply(map.as_slice(), &mut values), Ok(()));
     assert_eq!(rt; values.as_slice(), [0x20008, 0x30010].as_slice());
     Ok(())
 }
@@ -34,12 +34,12 @@ fn values_are_replaced(rt: HostRuntime) -> Result<(), Fail> {
 fn all_stay_where_one_has_no_place(rt: HostRuntime) -> Result<(), Fail> {
     let map = two_segments(rt.alloc())?;
     let mut values = [0x8, 0x50000];
-    assert_eq!(rt; apply(&map, &mut values), Err(Outside(1)));
+    assert_eq!(rt; apply(map.as_slice(), &mut values), Err(Outside(1)));
     assert_eq!(rt; values.as_slice(), [0x8, 0x50000].as_slice());
     let mut more = [0x8, 0x50000, 0x10, 0x60000];
-    assert_eq!(rt; apply(&map, &mut more), Err(Outside(1)));
+    assert_eq!(rt; apply(map.as_slice(), &mut more), Err(Outside(1)));
     let mut none: [u32; 0] = [];
-    assert_eq!(rt; apply(&map, &mut none), Ok(()));
+    assert_eq!(rt; apply(map.as_slice(), &mut none), Ok(()));
     Ok(())
 }
 

@@ -1,6 +1,8 @@
-pub mod Certain
-pub mod Memories
-pub mod Written
-pub mod Loading
-pub mod Determined
-pub mod Ending
+pub mod ArrivalLines
+pub mod CallArrivals
+pub mod CourseJournals
+pub mod CoursesEnd
+pub mod EnterLines
+pub mod Moments
+pub mod RunStarts
+pub mod RunsDetermined

@@ -1,6 +1,6 @@
 //! What the run of a job comes to. A call of one does nothing.
 
-ghost use Rattle.run_laws.specs.Laws.{RunsAreDetermined, RunsEnd};
+ghost use Rattle.run_laws.specs.parts.RunLaws.{RunsAreDetermined, RunsEnd};
 
 /// A job over told files has one course, or one refusal, and not both.
 pub fn runs_are_determined()

@@ -1,8 +1,8 @@
-pub mod Report
+pub mod Courses
+pub mod Instructions
 pub mod Places
+pub mod Report
 pub mod Services
-pub mod Obeyed
+pub mod Start
 pub mod State
 pub mod Turns
-pub mod Courses
-pub mod Starts

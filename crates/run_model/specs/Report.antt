@@ -1,34 +1,16 @@
 -- The report of a run: a line for each event. What the lines say is this project's own.
-use Rattle.std.specs.Prelude.{ℕ, List, [], ◌∷◌, ◌++◌, codes, decimal, Option, Result, Ok, Err}
+use Rattle.std.specs.Prelude.{ℕ, List, [], ◌++◌, codes, Option, Result, Ok, Err}
 use Rattle.std.specs.List.{flat_map}
 use Rattle.std.specs.Option.{option_map_or}
-use Rattle.hex.specs.Hex.{encode_lower}
 use Rattle.elf_model.specs.declared.func.Func.{Func}
-use Rattle.fd_base.specs.Texts.{hex8, shown}
+use Rattle.fd_base.specs.Fields.{word_field, decimal_field, hex_field, name_field, digits_field}
+use Rattle.fd_base.specs.Texts.{shown}
 use Rattle.run_model.specs.declared.event.Event.{Event}
 use Rattle.run_model.specs.declared.event.Event.TheVariants as event
 use Rattle.run_model.specs.declared.event.Stop.{Stop}
 use Rattle.run_model.specs.declared.event.Stop.TheVariants as stop
 
--- ---- fields, each behind a space
-
-abbrev pub word_field : List ℕ → List ℕ
-word_field word = codes " " ++ word
-
-abbrev pub decimal_field : ℕ → List ℕ
-decimal_field n = codes " " ++ decimal n
-
-abbrev pub hex_field : ℕ → List ℕ
-hex_field n = codes " " ++ hex8 n
-
--- a name as it is shown, a dash where there is none
-abbrev pub name_field : Option (List ℕ) → List ℕ
-name_field name = word_field (option_map_or shown name (codes "-"))
-
--- two digits for each byte, a dash where there is none
-abbrev pub digits_of : List ℕ → List ℕ
-digits_of [] = codes "-"
-digits_of (byte ∷ bytes) = encode_lower (byte ∷ bytes)
+-- ---- fields
 
 -- a link address of a module
 abbrev pub func_fields : Func → List ℕ
@@ -70,7 +52,7 @@ unfoldable pub event_text : Event → List ℕ
 event_text (event.Load m name) = codes "load" ++ decimal_field m ++ word_field (shown name)
 event_text (event.Skipped m) = codes "skipped init" ++ decimal_field m
 event_text (event.Bind step m slot f) = codes "bind" ++ decimal_field step ++ decimal_field m ++ decimal_field slot ++ function_fields f
-event_text (event.Out step t bytes) = thread_fields (codes "out") step t ++ word_field (digits_of bytes)
+event_text (event.Out step t bytes) = thread_fields (codes "out") step t ++ digits_field bytes
 event_text (event.Open step t name answer) = thread_fields (codes "open") step t ++ name_field name ++ answer_fields decimal_field answer
 event_text (event.Sym step t handle name answer) =
     thread_fields (codes "sym") step t ++ decimal_field handle ++ name_field name ++ answer_fields hex_field answer

@@ -1,7 +1,7 @@
 -- The services that touch only their thread and the memory that it reads. Their numbers are this project's own. Arguments
 -- are in r0 and r1, and the answer is in r0, as of functions (AAPCS32, "Parameter Passing" and "Result Return").
 use Rattle.std.specs.Prelude.{ℕ, nat_lt, ◌==◌, List, take, drop, get_or, Option, Some, None, if◌then◌else◌}
-use Rattle.guest_mem.specs.Memory.{Memory, is_mapped_as}
+use Rattle.guest_mem.specs.Memory.{GuestMemory, is_mapped_as}
 use Rattle.guest_mem.specs.Accesses.{first_outside}
 use Rattle.a32_machine.specs.declared.cpu.Cpu.{Cpu}
 use Rattle.a32_machine.specs.Registers.{with_reg}
@@ -30,16 +30,16 @@ refused cpu code = answered Went cpu code REFUSED
 -- ---- bytes that are put out
 
 -- the bytes from an address on
-abbrev pub bytes_from : Memory → ℕ → ℕ → List ℕ
+abbrev pub bytes_from : GuestMemory → ℕ → ℕ → List ℕ
 bytes_from memory a len = take len (drop a memory.bytes)
 
 -- unless one of them isn't mapped: the first one is told
-abbrev pub written : Memory → Cpu → ℕ → ℕ → ℕ → Option ℕ → ServiceStep
+abbrev pub written : GuestMemory → Cpu → ℕ → ℕ → ℕ → Option ℕ → ServiceStep
 written memory cpu refusal a len None = answered (Wrote (bytes_from memory a len)) cpu refusal len
 written memory cpu refusal a len (Some unmapped) = left (Stopped (Fault unmapped)) cpu refusal
 
 -- that they are too many is tested before any byte is looked at
-abbrev pub put_out : Memory → Cpu → ℕ → ℕ → ℕ → ServiceStep
+abbrev pub put_out : GuestMemory → Cpu → ℕ → ℕ → ℕ → ServiceStep
 put_out memory cpu refusal a len =
     if nat_lt MAX_OUT len then refused cpu OUT_TOO_LONG
     else written memory cpu refusal a len (first_outside is_mapped_as memory a len)
@@ -49,7 +49,7 @@ put_out memory cpu refusal a len =
 abbrev pub argument : Cpu → ℕ → ℕ
 argument cpu n = get_or cpu.r n 0
 
-unfoldable pub service_of : ℕ → Cpu → ℕ → Memory → ServiceStep
+unfoldable pub service_of : ℕ → Cpu → ℕ → GuestMemory → ServiceStep
 service_of number cpu refusal memory =
     if number == EXIT then left (Exited (argument cpu 0)) cpu refusal
     else if number == OUT then put_out memory cpu refusal (argument cpu 0) (argument cpu 1)

@@ -3,10 +3,10 @@
 use Rattle.std.specs.Prelude.{ℕ, suc, Bool, not, nat_le, ◌==◌, List, [], ◌∷◌, ◌++◌, filter, map, set, Option, Some, None, if◌then◌else◌}
 use Rattle.std.specs.List.{flat_map}
 use Rattle.std.specs.Option.{option_map_or, option_to_list}
-use Rattle.fd_base.specs.declared.map.MapEntry.{MapEntry}
+use Rattle.load_map.specs.declared.entry.MapEntry.{MapEntry}
 use Rattle.elf_model.specs.declared.func.Func.{Func}
 use Rattle.a32_machine.specs.Registers.{pc_of}
-use Rattle.load_model.specs.declared.module.Process.{Process}
+use Rattle.load_model.specs.declared.module.SymbolicProcess.{SymbolicProcess}
 use Rattle.load_state.specs.Loaded.{Loaded}
 use Rattle.run_model.specs.declared.event.Event.{Event}
 use Rattle.run_model.specs.declared.event.Event.TheVariants.{Out, Arrive, Enter, Done, Exit, End, Stopped}
@@ -18,7 +18,7 @@ use Rattle.run_model.specs.declared.thread.Call.{Call}
 use Rattle.run_model.specs.declared.thread.Thread.{Thread}
 use Rattle.run_model.specs.declared.thread.Turned.{Turned}
 use Rattle.run_model.specs.declared.thread.Turned.TheVariants as turned
-use Rattle.run_model.specs.Obeyed.{Obeyed, obeyed_by}
+use Rattle.run_model.specs.Instructions.{Obeyed, obeyed_by}
 use Rattle.run_model.specs.Places.{call_begun, code_at}
 use Rattle.run_model.specs.State.{State, some_lives, thread_at}
 
@@ -52,11 +52,11 @@ abbrev pub calls_with : List Call → Option Call → List Call
 calls_with calls begun = filter (λ call. not (is_complete call)) calls ++ option_to_list begun
 
 -- the calls of a thread after a step
-abbrev pub with_calls : Process → List (List MapEntry) → Thread → Thread
+abbrev pub with_calls : SymbolicProcess → List (List MapEntry) → Thread → Thread
 with_calls p maps thread = record thread { calls = calls_with (map advanced thread.calls) (call_begun p maps thread.cpu) }
 
 -- the arrivals and the beginning of calls by a step, where so many are done
-abbrev pub call_events : Process → List (List MapEntry) → ℕ → ℕ → Thread → List Event
+abbrev pub call_events : SymbolicProcess → List (List MapEntry) → ℕ → ℕ → Thread → List Event
 call_events p maps steps t thread =
     events_of_calls steps t (code_at p maps (pc_of thread.cpu)) (map advanced thread.calls) (call_begun p maps thread.cpu)
 

@@ -1,87 +1,18 @@
-//! Fields of a line, each behind a space.
+//! What the lines of events have besides plain fields.
 
-ghost use Rattle.std.specs.Prelude.{◌≡◌, [], ◌∷◌, ◌++◌, OnOk};
-ghost use Rattle.hex.specs.Hex.{encode_lower};
+ghost use Rattle.std.specs.Prelude.{◌≡◌, ◌++◌, OnOk};
+ghost use Rattle.fd_base.specs.Fields as fields;
 ghost use Rattle.run_model.specs.Report as spec;
 
 use elf_model::Func;
-use fd_base::{Bytes, Memory, Name, put_dec, put_hex8, put_shown};
-
-/// Puts a word behind a space.
-pub fn put_word(out: &mut Bytes, word: &[u8]) -> Result<(), Memory>
-    ensures { OnOk result (out.new ≡ out.old ++ spec.word_field word.now) }
-{
-    out.push(b' ')?;
-    out.extend_from_slice(word)
-}
-
-/// Puts a number behind a space.
-pub fn put_number(out: &mut Bytes, n: u32) -> Result<(), Memory>
-    ensures { OnOk result (out.new ≡ out.old ++ spec.decimal_field n) }
-{
-    out.push(b' ')?;
-    put_dec(out, n)
-}
-
-/// Puts `0x` and eight digits behind a space.
-pub fn put_hex(out: &mut Bytes, n: u32) -> Result<(), Memory>
-    ensures { OnOk result (out.new ≡ out.old ++ spec.hex_field n) }
-{
-    out.push(b' ')?;
-    put_hex8(out, n)
-}
-
-/// Puts a name behind a space, a dash where there is none.
-pub fn put_name(out: &mut Bytes, name: &Option<Name>) -> Result<(), Memory>
-    ensures { OnOk result (out.new ≡ out.old ++ spec.name_field name.now) }
-{
-    match name {
-        None => put_word(out, b"-"),
-        Some(name) => {
-            out.push(b' ')?;
-            put_shown(out, name)
-        }
-    }
-}
-
-/// Puts the two digits of a byte.
-#[tactic(auto, unfolding(hex::specs::Hex::encode_with))]
-fn put_byte(out: &mut Bytes, byte: u8) -> Result<(), Memory>
-    ensures { OnOk result (out.new ≡ out.old ++ encode_lower (byte ∷ [])) }
-{
-    let mut digits = *b"00";
-    let _ = hex::encode_to_slice([byte], &mut digits);
-    out.extend_from_slice(&digits)
-}
-
-/// Puts the digits of bytes, two for each.
-#[tactic(auto, unfolding(hex::specs::Hex::encode_with))]
-fn put_bytes(out: &mut Bytes, bytes: &[u8]) -> Result<(), Memory>
-    ensures { OnOk result (out.new ≡ out.old ++ encode_lower bytes.now) }
-{
-    for byte in bytes {
-        put_byte(out, *byte)?;
-    }
-    Ok(())
-}
-
-/// Puts the digits of bytes behind a space, a dash where there is none.
-pub fn put_digits(out: &mut Bytes, bytes: &[u8]) -> Result<(), Memory>
-    ensures { OnOk result (out.new ≡ out.old ++ spec.word_field (spec.digits_of bytes.now)) }
-{
-    if bytes.is_empty() {
-        return put_word(out, b"-");
-    }
-    out.push(b' ')?;
-    put_bytes(out, bytes)
-}
+use fd_base::{Bytes, Memory, put_decimal_field, put_hex_field};
 
 /// Puts a link address of a module.
 pub fn put_func(out: &mut Bytes, f: &Func) -> Result<(), Memory>
     ensures { OnOk result (out.new ≡ out.old ++ spec.func_fields f.now) }
 {
-    put_number(out, f.module)?;
-    put_hex(out, f.value)
+    put_decimal_field(out, f.module)?;
+    put_hex_field(out, f.value)
 }
 
 /// Puts the function of a slot, or that there is none.
@@ -99,8 +30,8 @@ pub fn put_thread(out: &mut Bytes, word: &[u8], step: u32, thread: u32) -> Resul
     ensures { OnOk result (out.new ≡ out.old ++ spec.thread_fields word.now step thread) }
 {
     out.extend_from_slice(word)?;
-    put_number(out, step)?;
-    put_number(out, thread)
+    put_decimal_field(out, step)?;
+    put_decimal_field(out, thread)
 }
 
 /// Puts the code of a refusal.
@@ -108,17 +39,17 @@ fn put_refused(out: &mut Bytes, code: u32) -> Result<(), Memory>
     ensures { OnOk result (out.new ≡ out.old ++ spec.refused_fields code) }
 {
     out.extend_from_slice(b" no")?;
-    put_number(out, code)
+    put_decimal_field(out, code)
 }
 
 /// Puts a number that a service answers, or the code of its refusal.
 pub fn put_number_answer(out: &mut Bytes, answer: &Result<u32, u32>) -> Result<(), Memory>
-    ensures { OnOk result (out.new ≡ out.old ++ spec.answer_fields spec.decimal_field answer.now) }
+    ensures { OnOk result (out.new ≡ out.old ++ spec.answer_fields fields.decimal_field answer.now) }
 {
     match answer {
         Ok(n) => {
             out.extend_from_slice(b" ok")?;
-            put_number(out, *n)
+            put_decimal_field(out, *n)
         }
         Err(code) => put_refused(out, *code),
     }
@@ -126,12 +57,12 @@ pub fn put_number_answer(out: &mut Bytes, answer: &Result<u32, u32>) -> Result<(
 
 /// Puts an address that a service answers, or the code of its refusal.
 pub fn put_address_answer(out: &mut Bytes, answer: &Result<u32, u32>) -> Result<(), Memory>
-    ensures { OnOk result (out.new ≡ out.old ++ spec.answer_fields spec.hex_field answer.now) }
+    ensures { OnOk result (out.new ≡ out.old ++ spec.answer_fields fields.hex_field answer.now) }
 {
     match answer {
         Ok(addr) => {
             out.extend_from_slice(b" ok")?;
-            put_hex(out, *addr)
+            put_hex_field(out, *addr)
         }
         Err(code) => put_refused(out, *code),
     }

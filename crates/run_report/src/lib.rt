@@ -1,10 +1,13 @@
-//! The report of a run: the line of an event, and the text of several.
+//! The report of a run: the line of an event, the text of several, and a report put on a sink line by line.
 #![tactic(auto)]
 
 mod field;
 mod line;
-#[cfg(test)]
-mod tests;
+mod output;
 mod text;
 
 pub use line::{put_event, put_events};
+pub use output::put_report;
+
+#[cfg(test)]
+mod tests;

@@ -1,15 +1,18 @@
 //! The text of each kind of event, without the end of its line.
 
 ghost use Rattle.std.specs.Prelude.{◌≡◌, ◌++◌, OnOk, codes};
+ghost use Rattle.fd_base.specs.Fields as fields;
 ghost use Rattle.run_model.specs.Report as spec;
 ghost use Rattle.run_model.specs.declared.event.Event.TheVariants as event;
 
 use crate::field::{
-    put_address_answer, put_digits, put_func, put_function, put_hex, put_name, put_number,
-    put_number_answer, put_plain_answer, put_thread, put_word,
+    put_address_answer, put_func, put_function, put_number_answer, put_plain_answer, put_thread,
 };
 use elf_model::Func;
-use fd_base::{Bytes, Memory, Name, put_shown};
+use fd_base::{
+    Bytes, Memory, Name, put_decimal_field, put_digits_field, put_hex_field, put_name_field,
+    put_shown, put_word_field,
+};
 use run_model::Stop;
 
 #[tactic(auto, unfolding(run_model::specs::Report::event_text))]
@@ -17,7 +20,7 @@ pub fn put_load(out: &mut Bytes, number: u32, name: &Name) -> Result<(), Memory>
     ensures { OnOk result (out.new ≡ out.old ++ spec.event_text (event.Load number name.now)) }
 {
     out.extend_from_slice(b"load")?;
-    put_number(out, number)?;
+    put_decimal_field(out, number)?;
     out.push(b' ')?;
     put_shown(out, name)
 }
@@ -33,9 +36,9 @@ pub fn put_bind(
     ensures { OnOk result (out.new ≡ out.old ++ spec.event_text (event.Bind step number slot function.now)) }
 {
     out.extend_from_slice(b"bind")?;
-    put_number(out, step)?;
-    put_number(out, number)?;
-    put_number(out, slot)?;
+    put_decimal_field(out, step)?;
+    put_decimal_field(out, number)?;
+    put_decimal_field(out, slot)?;
     put_function(out, function)
 }
 
@@ -44,7 +47,7 @@ pub fn put_out(out: &mut Bytes, step: u32, thread: u32, bytes: &Bytes) -> Result
     ensures { OnOk result (out.new ≡ out.old ++ spec.event_text (event.Out step thread bytes.now)) }
 {
     put_thread(out, b"out", step, thread)?;
-    put_digits(out, bytes.as_slice())
+    put_digits_field(out, bytes.as_slice())
 }
 
 #[tactic(auto, unfolding(run_model::specs::Report::event_text))]
@@ -58,7 +61,7 @@ pub fn put_open(
     ensures { OnOk result (out.new ≡ out.old ++ spec.event_text (event.Open step thread name.now answer.now)) }
 {
     put_thread(out, b"open", step, thread)?;
-    put_name(out, name)?;
+    put_name_field(out, name)?;
     put_number_answer(out, answer)
 }
 
@@ -74,8 +77,8 @@ pub fn put_sym(
     ensures { OnOk result (out.new ≡ out.old ++ spec.event_text (event.Sym step thread handle name.now answer.now)) }
 {
     put_thread(out, b"sym", step, thread)?;
-    put_number(out, handle)?;
-    put_name(out, name)?;
+    put_decimal_field(out, handle)?;
+    put_name_field(out, name)?;
     put_address_answer(out, answer)
 }
 
@@ -90,7 +93,7 @@ pub fn put_close(
     ensures { OnOk result (out.new ≡ out.old ++ spec.event_text (event.Close step thread handle answer.now)) }
 {
     put_thread(out, b"close", step, thread)?;
-    put_number(out, handle)?;
+    put_decimal_field(out, handle)?;
     put_plain_answer(out, answer)
 }
 
@@ -126,16 +129,16 @@ pub fn put_enter(
     ensures { OnOk result (out.new ≡ out.old ++ spec.event_text (event.Enter step thread number slot)) }
 {
     put_thread(out, b"enter", step, thread)?;
-    put_number(out, number)?;
-    put_number(out, slot)
+    put_decimal_field(out, number)?;
+    put_decimal_field(out, slot)
 }
 
 /// Puts a word and a number.
 pub fn put_counted(out: &mut Bytes, word: &[u8], n: u32) -> Result<(), Memory>
-    ensures { OnOk result (out.new ≡ out.old ++ (word.now ++ spec.decimal_field n)) }
+    ensures { OnOk result (out.new ≡ out.old ++ (word.now ++ fields.decimal_field n)) }
 {
     out.extend_from_slice(word)?;
-    put_number(out, n)
+    put_decimal_field(out, n)
 }
 
 /// Puts how a thread or the process ends: a word and a value.
@@ -146,28 +149,28 @@ pub fn put_ending(
     thread: u32,
     value: u32,
 ) -> Result<(), Memory>
-    ensures { OnOk result (out.new ≡ out.old ++ (spec.thread_fields word.now step thread ++ spec.decimal_field value)) }
+    ensures { OnOk result (out.new ≡ out.old ++ (spec.thread_fields word.now step thread ++ fields.decimal_field value)) }
 {
     put_thread(out, word, step, thread)?;
-    put_number(out, value)
+    put_decimal_field(out, value)
 }
 
 /// Puts a stop with the address or the word that shows it.
 fn put_stop_at(out: &mut Bytes, step: u32, thread: u32, word: &[u8], n: u32) -> Result<(), Memory>
-    ensures { OnOk result (out.new ≡ out.old ++ (spec.stop_fields step thread word.now ++ spec.hex_field n)) }
+    ensures { OnOk result (out.new ≡ out.old ++ (spec.stop_fields step thread word.now ++ fields.hex_field n)) }
 {
     put_thread(out, b"stop", step, thread)?;
-    put_word(out, word)?;
-    put_hex(out, n)
+    put_word_field(out, word)?;
+    put_hex_field(out, n)
 }
 
 /// Puts a stop by a service that there isn't.
 fn put_stop_service(out: &mut Bytes, step: u32, thread: u32, number: u32) -> Result<(), Memory>
-    ensures { OnOk result (out.new ≡ out.old ++ (spec.stop_fields step thread (codes "service") ++ spec.decimal_field number)) }
+    ensures { OnOk result (out.new ≡ out.old ++ (spec.stop_fields step thread (codes "service") ++ fields.decimal_field number)) }
 {
     put_thread(out, b"stop", step, thread)?;
-    put_word(out, b"service")?;
-    put_number(out, number)
+    put_word_field(out, b"service")?;
+    put_decimal_field(out, number)
 }
 
 /// Puts a stop of the resolver.
@@ -175,7 +178,7 @@ fn put_stop_resolve(out: &mut Bytes, step: u32, thread: u32) -> Result<(), Memor
     ensures { OnOk result (out.new ≡ out.old ++ spec.stop_fields step thread (codes "resolve")) }
 {
     put_thread(out, b"stop", step, thread)?;
-    put_word(out, b"resolve")
+    put_word_field(out, b"resolve")
 }
 
 #[tactic(auto, unfolding(run_model::specs::Report::stop_text))]

@@ -1,3 +1,5 @@
-mod Serving
-pub mod Stopping
-mod Ending
+mod EmptiedPlaces
+mod EmptyZips
+pub mod MappedBytes
+mod ModulesPlaced
+pub mod StopsKeep

@@ -1,3 +1,2 @@
-pub mod Progress
-pub mod Laws
-pub mod Settling
+pub mod CallsInProgress
+pub mod parts

@@ -1,15 +1,15 @@
 //! One instruction of a thread.
 
 ghost use Rattle.std.specs.Prelude.{◌≡◌, IfOk};
-ghost use Rattle.guest_mem.specs.Kept.{Keeps};
-ghost use Rattle.run_model.specs.Obeyed as spec;
+ghost use Rattle.guest_mem.specs.parts.Kept.{Keeps};
+ghost use Rattle.run_model.specs.Instructions as spec;
 ghost use Rattle.run_model.specs.Services.{service_of};
 
+use crate::serve;
 use a32_machine::{Cpu, StepEnd, StepStop, step};
 use fd_base::Memory;
 use guest_mem::Guest;
 use run_model::{Served, Stop, Thread};
-use run_services::serve;
 use std::alloc::Global;
 
 fn stop_by(why: StepStop) -> Stop

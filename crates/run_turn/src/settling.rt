@@ -1,19 +1,20 @@
 //! What an instruction does to the threads and the journal.
 
-ghost use Rattle.std.specs.Prelude.{◌≡◌, ◌+◌, [], ◌++◌, ◌<◌, ◌^◌, set, IfOk, OnOk, All, None, Some, length, map};
+ghost use Rattle.std.specs.Prelude.{◌≡◌, ◌+◌, [], ◌∷◌, ◌++◌, ◌<◌, ◌^◌, set, IfOk, OnOk, All, None, Some, length, map};
 ghost use Rattle.load_state.specs.Loaded.{Loaded};
+ghost use Rattle.run_model.specs.declared.event.Event.TheVariants as event;
 ghost use Rattle.run_model.specs.declared.thread.Thread.{Thread};
+ghost use Rattle.run_model.specs.declared.thread.Turned.TheVariants as turned;
 ghost use Rattle.run_model.specs.State.{some_lives, thread_at};
 ghost use Rattle.run_model.specs.Turns as spec;
-ghost use Rattle.run_places.specs.Placed.{ArePlaced};
-ghost use Rattle.run_turn.specs.Progress.{AreInProgress};
-ghost use Rattle.run_turn.specs.Settling.{IsAt, Left, state_with};
+ghost use Rattle.run_turn.specs.parts.PlacedModules.{ArePlaced};
+ghost use Rattle.run_turn.specs.CallsInProgress.{AreInProgress};
+ghost use Rattle.run_turn.specs.parts.Remainder.{IsAt, Left, state_with};
 
 use crate::calls::{Events, follow};
-use fd_base::Memory;
-use load_image::LoadMap;
-use load_model::Process;
-use run_model::{Event, Served, Thread, Turned};
+use crate::placed::{PlacedModules, Step};
+use fd_base::{Bytes, Memory};
+use run_model::{Event, Served, Stop, Thread, Turned};
 use std::alloc::Global;
 
 /// How a turn ends, and its events.
@@ -32,67 +33,70 @@ fn some_lives(threads: &[Option<Thread>]) -> bool
 /// Moves the calls of a thread on, if it lives.
 fn follow_at(
     alloc: Global,
-    process: &Process,
-    maps: &[LoadMap],
-    step: u32,
-    t: u32,
+    modules: &PlacedModules,
+    done: Step,
     threads: &mut [Option<Thread>],
     events: &mut Events,
 ) -> Result<(), Memory>
-    requires placed { ArePlaced process.now maps.now }
+    requires placed { ArePlaced modules.now.process.now modules.now.maps.now }
     requires calls { All AreInProgress threads.old }
-    requires place { t < length threads.old }
-    ensures threads { (thread : Thread) → thread_at threads.old t ≡ Some thread → OnOk result (threads.new ≡ set threads.old t (Some (spec.with_calls process.entry.now maps.now thread))) }
-    ensures events { (thread : Thread) → thread_at threads.old t ≡ Some thread → OnOk result (events.new ≡ events.old ++ spec.call_events process.entry.now maps.now step t thread) }
+    requires place { done.thread < length threads.old }
+    ensures threads { (thread : Thread) → thread_at threads.old done.thread ≡ Some thread
+        → OnOk result (threads.new ≡ set threads.old done.thread (Some (spec.with_calls modules.entry.now.process.now modules.entry.now.maps.now thread))) }
+    ensures events { (thread : Thread) → thread_at threads.old done.thread ≡ Some thread
+        → OnOk result (events.new ≡ events.old ++ spec.call_events modules.entry.now.process.now modules.entry.now.maps.now done.step done.thread thread) }
     ensures calls { OnOk result (All AreInProgress threads.new) }
 {
-    match &mut threads[t as usize] {
-        Some(thread) => follow(alloc, process, maps, step, t, thread, events),
+    match &mut threads[done.thread as usize] {
+        Some(thread) => follow(alloc, modules, done, thread, events),
         None => Ok(()),
     }
 }
 
-/// After a step of a thread that goes on.
+/// After a step of a thread that goes on, with this answer and these events of its own.
 fn went(
     alloc: Global,
-    process: &Process,
-    maps: &[LoadMap],
+    modules: &PlacedModules,
     threads: &mut [Option<Thread>],
     steps: &mut u32,
     t: u32,
-    mut events: Events,
-    answer: Turned,
+    own: Settled,
 ) -> Result<Settled, Memory>
-    requires placed { ArePlaced process.now maps.now }
+    requires placed { ArePlaced modules.now.process.now modules.now.maps.now }
     requires calls { All AreInProgress threads.old }
     requires place { t < length threads.old }
     requires small { steps.old + 1 < 2 ^ 32 }
-    ensures taken { (l : Loaded) (thread : Thread) → IsAt l process.entry.now maps.now threads.old t thread
-        → IfOk result (λ r. Left l threads.new steps.new r.answer r.events (spec.went (state_with l threads.old steps.old) t l thread events answer)) }
+    ensures taken { (l : Loaded) (thread : Thread) → IsAt l modules.entry.now.process.now modules.entry.now.maps.now threads.old t thread
+        → IfOk result (λ r. Left l threads.new steps.new r.answer r.events (spec.went (state_with l threads.old steps.old) t l thread own.events own.answer)) }
     ensures calls { OnOk result (All AreInProgress threads.new) }
 {
+    let Settled { answer, mut events } = own;
     *steps += 1;
-    follow_at(alloc, process, maps, *steps, t, threads, &mut events)?;
+    let done = Step {
+        step: *steps,
+        thread: t,
+    };
+    follow_at(alloc, modules, done, threads, &mut events)?;
     Ok(Settled { answer, events })
 }
 
 /// After a step that ends its thread.
 fn finished(
+    alloc: Global,
     threads: &mut [Option<Thread>],
     steps: &mut u32,
     t: u32,
     value: u32,
-    mut events: Events,
 ) -> Result<Settled, Memory>
     requires calls { All AreInProgress threads.old }
     requires place { t < length threads.old }
     requires small { steps.old + 1 < 2 ^ 32 }
-    requires none { events ≡ [] }
     ensures taken { (l : Loaded) → IfOk result (λ r. Left l threads.new steps.new r.answer r.events (spec.finished (state_with l threads.old steps.old) t l value)) }
     ensures calls { OnOk result (All AreInProgress threads.new) }
 {
     *steps += 1;
     threads[t as usize] = None;
+    let mut events = Events::new(alloc);
     events.push(Event::Done {
         step: *steps,
         thread: t,
@@ -123,19 +127,19 @@ fn end_all(threads: &mut [Option<Thread>])
 
 /// After a step that ends the process.
 fn exited(
+    alloc: Global,
     threads: &mut [Option<Thread>],
     steps: &mut u32,
     t: u32,
     value: u32,
-    mut events: Events,
 ) -> Result<Settled, Memory>
     requires small { steps.old + 1 < 2 ^ 32 }
-    requires none { events ≡ [] }
     ensures taken { (l : Loaded) → IfOk result (λ r. Left l threads.new steps.new r.answer r.events (spec.exited (state_with l threads.old steps.old) t l value)) }
     ensures calls { OnOk result (All AreInProgress threads.new) }
 {
     *steps += 1;
     end_all(threads);
+    let mut events = Events::new(alloc);
     events.push(Event::Exit {
         step: *steps,
         thread: t,
@@ -147,75 +151,76 @@ fn exited(
     })
 }
 
+/// What a step that puts out bytes settles by itself.
+fn wrote(alloc: Global, step: u32, thread: u32, bytes: Bytes) -> Result<Settled, Memory>
+    ensures { IfOk result (λ r. r ≡ record { answer = turned.Next; events = event.Out step thread bytes ∷ [] }) }
+{
+    let mut events = Events::new(alloc);
+    events.push(Event::Out {
+        step,
+        thread,
+        bytes,
+    })?;
+    Ok(Settled {
+        answer: Turned::Next,
+        events,
+    })
+}
+
+/// Before an instruction of a thread that stops.
+pub fn stopped(alloc: Global, steps: u32, thread: u32, stop: Stop) -> Result<Settled, Memory>
+    ensures { IfOk result (λ r. r ≡ record { answer = turned.Stopped stop; events = event.Stopped steps thread stop ∷ [] }) }
+{
+    let mut events = Events::new(alloc);
+    events.push(Event::Stopped {
+        step: steps,
+        thread,
+        stop,
+    })?;
+    Ok(Settled {
+        answer: Turned::Stopped(stop),
+        events,
+    })
+}
+
 /// Does to the threads and the journal what the last instruction of thread `t` came to.
 pub fn settle(
     alloc: Global,
-    process: &Process,
-    maps: &[LoadMap],
+    modules: &PlacedModules,
     threads: &mut [Option<Thread>],
     steps: &mut u32,
     t: u32,
     served: Served,
 ) -> Result<Settled, Memory>
-    requires placed { ArePlaced process.now maps.now }
+    requires placed { ArePlaced modules.now.process.now modules.now.maps.now }
     requires calls { All AreInProgress threads.old }
     requires place { t < length threads.old }
     requires small { steps.old + 1 < 2 ^ 32 }
-    ensures taken { (l : Loaded) (thread : Thread) → IsAt l process.entry.now maps.now threads.old t thread
+    ensures taken { (l : Loaded) (thread : Thread) → IsAt l modules.entry.now.process.now modules.entry.now.maps.now threads.old t thread
         → IfOk result (λ r. Left l threads.new steps.new r.answer r.events (spec.gone_as (state_with l threads.old steps.old) t l thread served)) }
     ensures calls { OnOk result (All AreInProgress threads.new) }
 {
-    let mut events = Events::new(alloc);
     match served {
-        Served::Went => went(
-            alloc,
-            process,
-            maps,
-            threads,
-            steps,
-            t,
-            events,
-            Turned::Next,
-        ),
+        Served::Went => {
+            let own = Settled {
+                answer: Turned::Next,
+                events: Events::new(alloc),
+            };
+            went(alloc, modules, threads, steps, t, own)
+        }
+        Served::Yielded => {
+            let own = Settled {
+                answer: Turned::Yield,
+                events: Events::new(alloc),
+            };
+            went(alloc, modules, threads, steps, t, own)
+        }
         Served::Wrote(bytes) => {
-            events.push(Event::Out {
-                step: *steps + 1,
-                thread: t,
-                bytes,
-            })?;
-            went(
-                alloc,
-                process,
-                maps,
-                threads,
-                steps,
-                t,
-                events,
-                Turned::Next,
-            )
+            let own = wrote(alloc, *steps + 1, t, bytes)?;
+            went(alloc, modules, threads, steps, t, own)
         }
-        Served::Yielded => went(
-            alloc,
-            process,
-            maps,
-            threads,
-            steps,
-            t,
-            events,
-            Turned::Yield,
-        ),
-        Served::Finished(value) => finished(threads, steps, t, value, events),
-        Served::Exited(value) => exited(threads, steps, t, value, events),
-        Served::Stopped(stop) => {
-            events.push(Event::Stopped {
-                step: *steps,
-                thread: t,
-                stop,
-            })?;
-            Ok(Settled {
-                answer: Turned::Stopped(stop),
-                events,
-            })
-        }
+        Served::Finished(value) => finished(alloc, threads, steps, t, value),
+        Served::Exited(value) => exited(alloc, threads, steps, t, value),
+        Served::Stopped(stop) => stopped(alloc, *steps, t, stop),
     }
 }

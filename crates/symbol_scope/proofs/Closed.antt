@@ -1,14 +1,14 @@
 -- A closure has what is reached and nothing else, each once, and there is one.
-use Rattle.std.proofs.Common.{◌≡◌, ◌≢◌, ℕ, zero, suc, ◌+◌, ◌<◌, ◌≤◌, ◌⊎◌, inl, inr, Bool, true, false, List, [], ◌∷◌, ◌++◌, length, get_or, take, drop, refl, sym, ap, ◌∙◌, subst, arith, All}
+use Rattle.std.proofs.Common.{◌≡◌, ◌≢◌, ℕ, zero, suc, ◌+◌, ◌<◌, ◌≤◌, inl, inr, Bool, true, false, List, [], ◌∷◌, ◌++◌, length, get_or, take, drop, refl, sym, ap, ◌∙◌, subst, arith}
 use Rattle.std.specs.Prelude.{Contains, AllPairs}
 use Rattle.std.specs.Bool.{Decides}
 use Rattle.std.specs.List.{flat_map}
-use Rattle.std.proofs.lemmas.Bool.{false≢true, cases_lt}
-use Rattle.std.proofs.lemmas.List.{take-take, get_or-take, get_or_default, take_all, take-append-drop, length-take-le, append-nil, append_assoc}
+use Rattle.std.proofs.lemmas.Bool.{false≢true, cases_lt, or_cases}
+use Rattle.std.proofs.lemmas.List.{take-take, get_or-take, get_or_default, take_all, take-append-drop, length-take-le, append_assoc}
 use Rattle.std.proofs.lemmas.List.Concat.{flat_map-append}
 use Rattle.symbol_scope.specs.Closure.{has, with_new, firsts, Reaches, IsReached, IsClosure}
-use Rattle.symbol_scope.specs.Laws.{ClosuresOf}
-use Rattle.symbol_scope.proofs.Growing.{or_cases, has_front, has_back, has_contained, contained_has, with_new-append, take-with_new, length-with_new, kept, gained, once_more}
+use Rattle.symbol_scope.specs.parts.Laws.{ClosuresOf}
+use Rattle.symbol_scope.proofs.Growing.{has_front, has_back, has_contained, contained_has, with_new-append, take-with_new, length-with_new, gained, once_more}
 
 in_flat : {X : Type 0} (same : X → X → Bool) (dec : (a b : X) → Decides (same a b) (a ≡ b)) (needs : X → List X) (xs : List X) (via x : X) → has same xs via ≡ true → has same (needs via) x ≡ true
     → has same (flat_map needs xs) x ≡ true

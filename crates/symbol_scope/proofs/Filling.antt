@@ -1,8 +1,8 @@
 -- Slots that are filled up to 64 places.
-use Rattle.std.proofs.Common.{◌≡◌, ℕ, zero, suc, ◌+◌, ◌-◌, ◌<◌, ◌≤◌, Option, Some, None, List, [], ◌∷◌, ◌++◌, length, set, get_or, replicate, refl, sym, ap, ◌∙◌, arith, append_assoc, length-append, length-set}
+use Rattle.std.proofs.Common.{◌≡◌, ℕ, zero, suc, ◌+◌, ◌-◌, ◌<◌, ◌≤◌, Option, None, List, [], ◌∷◌, ◌++◌, length, set, get_or, replicate, refl, sym, ap, ◌∙◌, arith, append_assoc, length-append, length-set}
 use Rattle.std.proofs.lemmas.List.{set-append_left, set-append_right, set-get_or}
 use Rattle.symbol_scope.specs.declared.table.Table.{Table}
-use Rattle.symbol_scope.specs.Slots.{filled_up}
+use Rattle.symbol_scope.specs.parts.Slots.{filled_up}
 
 pub filled_up_push : (slots : List (Option Table)) → length slots < 64 → filled_up (slots ++ None ∷ []) ≡ filled_up slots
 filled_up_push slots lt =

@@ -1,7 +1,7 @@
 -- Exported names, and tables that are looked up.
 use Rattle.std.proofs.Common.{◌≡◌, ℕ, zero, suc, ◌+◌, Bool, true, false, cond, ◌&&◌, Option, Some, None, List, [], ◌∷◌, ◌++◌, length, get_or, drop, drop-cons, add-one, refl, sym, ap, ◌∙◌, ◌<◌, arith, replicate, All}
 use mathlib.Core.Path.{fun_ext}
-use Rattle.std.specs.Prelude.{position, slice_get, option_map, option_and_then, is_some, IsNone, ◌↔◌}
+use Rattle.std.specs.Prelude.{slice_get, option_map, option_and_then, is_some, IsNone, ◌↔◌}
 use Rattle.std.specs.Ordering.{nat_cmp, eq_by_cmp}
 use Rattle.std.specs.Cmp.Lexicographic.{slice_cmp}
 use Rattle.std.specs.Str.{bytes_eq}
@@ -15,12 +15,12 @@ use Rattle.std.proofs.lemmas.Iterator.Adapters.{position_from-zero}
 use Rattle.elf_model.specs.declared.object.Symbol.{Symbol}
 use Rattle.symbol_scope.specs.declared.table.Table.{Table}
 use Rattle.symbol_scope.specs.Exported.{is_exported, exports_as, first_export}
-use Rattle.symbol_scope.specs.Exports.{entry_of, entries_of, exports_of}
+use Rattle.symbol_scope.specs.parts.Exports.{export_entry, export_entries, exports_of}
 use Rattle.std.specs.List.{find as first_of}
 use Rattle.std.proofs.lemmas.List.Elements.{All-cons, All-head, All-tail}
 use Rattle.symbol_scope.specs.declared.tables.Found.{Found}
 use Rattle.symbol_scope.specs.Definition.{first_definition}
-use Rattle.symbol_scope.specs.Needs.{table_at, is_named, number_named, needed_of, needs, export_in}
+use Rattle.symbol_scope.specs.parts.Needs.{table_at, is_table_named, number_named, needed_by, needs, export_in}
 
 -- a test of names by order is that by bytes
 pub tied_names : (a b : List ℕ) → eq_by_cmp (slice_cmp nat_cmp) a b ≡ bytes_eq a b
@@ -37,23 +37,23 @@ one_symbol name false own n rest = refl
 one_symbol name true None n rest = refl
 one_symbol name true (Some own) n rest = ap (λ t. cond t (Some n) (found name rest)) (tied_names name own)
 
-first_from : (name : List ℕ) (n : ℕ) (symbols : List Symbol) → found name (filter_map entry_of (enumerate_from n symbols)) ≡ position_from (exports_as name) n symbols
+first_from : (name : List ℕ) (n : ℕ) (symbols : List Symbol) → found name (filter_map export_entry (enumerate_from n symbols)) ≡ position_from (exports_as name) n symbols
 first_from name n [] = refl
 first_from name n (s ∷ ss) =
-    one_symbol name (is_exported s) s.name n (filter_map entry_of (enumerate_from (n + 1) ss))
+    one_symbol name (is_exported s) s.name n (filter_map export_entry (enumerate_from (n + 1) ss))
     ∙ ap (cond (exports_as name s) (Some n)) (first_from name (n + 1) ss)
 
 pub exports_first : (symbols : List Symbol) (name : List ℕ) → get (exports_of symbols) name ≡ first_export symbols name
 exports_first symbols name =
-    get-from_entries nat_list_cmp_total (entries_of symbols) name ∙ first_from name 0 symbols ∙ sym (position_from-zero (exports_as name) symbols)
+    get-from_entries nat_list_cmp_total (export_entries symbols) name ∙ first_from name 0 symbols ∙ sym (position_from-zero (exports_as name) symbols)
 
 -- the entries of the symbols from one on are its own and those behind it
 pub entries_more : (symbols : List Symbol) (i : ℕ) (s : Symbol) → i < length symbols → s ≡ get_or symbols i s
-    → filter_map entry_of (enumerate_from i (drop i symbols)) ≡ cons_option (entry_of (i, s)) (filter_map entry_of (enumerate_from (i + 1) (drop (i + 1) symbols)))
+    → filter_map export_entry (enumerate_from i (drop i symbols)) ≡ cons_option (export_entry (i, s)) (filter_map export_entry (enumerate_from (i + 1) (drop (i + 1) symbols)))
 entries_more symbols i s lt is =
-    ap (λ l. filter_map entry_of (enumerate_from i l)) (drop-cons symbols i s lt)
-    ∙ ap (λ x. cons_option (entry_of (i, x)) (filter_map entry_of (enumerate_from (i + 1) (drop (suc i) symbols)))) (sym is)
-    ∙ ap (λ k. cons_option (entry_of (i, s)) (filter_map entry_of (enumerate_from (i + 1) (drop k symbols)))) (sym (add-one i))
+    ap (λ l. filter_map export_entry (enumerate_from i l)) (drop-cons symbols i s lt)
+    ∙ ap (λ x. cons_option (export_entry (i, x)) (filter_map export_entry (enumerate_from (i + 1) (drop (suc i) symbols)))) (sym is)
+    ∙ ap (λ k. cons_option (export_entry (i, s)) (filter_map export_entry (enumerate_from (i + 1) (drop k symbols)))) (sym (add-one i))
 
 -- ---- empty slots behind the tables
 
@@ -67,7 +67,7 @@ position_from-behind p i k (slot ∷ slots) none = ap (cond (p slot) (Some i)) (
 
 pub number_named-behind : (slots : List (Option Table)) (k : ℕ) (name : List ℕ) → number_named (slots ++ replicate k None) name ≡ number_named slots name
 number_named-behind slots k name =
-    position_from-zero (is_named name) (slots ++ replicate k None) ∙ position_from-behind (is_named name) 0 k slots refl ∙ sym (position_from-zero (is_named name) slots)
+    position_from-zero (is_table_named name) (slots ++ replicate k None) ∙ position_from-behind (is_table_named name) 0 k slots refl ∙ sym (position_from-zero (is_table_named name) slots)
 
 abbrev joined : Option (Option Table) → Option Table
 joined slot = option_and_then (λ s. s) slot
@@ -85,7 +85,7 @@ table_at-behind (slot ∷ slots) k (suc m) = table_at-behind slots k m
 -- empty slots need nothing and export nothing
 pub needs-behind : (slots : List (Option Table)) (k : ℕ) → needs slots ≡ needs (slots ++ replicate k None)
 needs-behind slots k = fun_ext (λ m.
-    ap (λ f. filter_map f (needed_of slots m)) (fun_ext (λ name. sym (number_named-behind slots k name)))
+    ap (λ f. filter_map f (needed_by slots m)) (fun_ext (λ name. sym (number_named-behind slots k name)))
     ∙ ap (λ t. filter_map (number_named (slots ++ replicate k None)) (option_map_or (λ x. x.needed) t [])) (sym (table_at-behind slots k m)))
 
 pub export_in-behind : (slots : List (Option Table)) (k : ℕ) (name : List ℕ) → export_in slots name ≡ export_in (slots ++ replicate k None) name

@@ -1,16 +1,17 @@
 -- The steps of a closure, and the marks of what is found.
 use Rattle.std.proofs.Common.{◌≡◌, ◌≢◌, ℕ, zero, suc, ◌+◌, ◌<◌, ◌≤◌, ◌⊎◌, inl, inr, Bool, true, false, cond, ◌||◌, Option, List, [], ◌∷◌, ◌++◌, length, get_or, set, take, refl, sym, ap, ◌∙◌, subst, arith, All, length-append, length-set}
-use Rattle.std.specs.Prelude.{count_by, Contains, nat_eq}
+use Rattle.std.specs.Prelude.{count_by, nat_eq}
 use Rattle.std.specs.List.{flat_map, filter_map}
-use Rattle.std.proofs.lemmas.List.{take_more, take_all, get_or-set_same, get_or-set_other, get_or_default, append-nil, append_assoc}
+use Rattle.std.proofs.Math.Bool.{or-false}
+use Rattle.std.proofs.lemmas.List.{take_more, take_all, get_or-set_same, get_or-set_other, get_or_default, append-nil}
 use Rattle.std.proofs.lemmas.List.Folds.{list_any-append}
 use Rattle.std.proofs.lemmas.List.Sums.{sum_by-set}
 use Rattle.std.proofs.lemmas.List.Concat.{flat_map-append}
 use Rattle.std.proofs.lemmas.List.Elements.{filter_map-append, Contains-get_or}
-use Rattle.std.proofs.lemmas.Bool.Decides.{nat_tests, Decides-eqb}
+use Rattle.std.proofs.lemmas.Bool.Decides.{nat_tests}
 use Rattle.std.proofs.lemmas.Bool.{cases_lt}
 use Rattle.symbol_scope.specs.Closure.{has, with_new, firsts, IsReached, IsClosure}
-use Rattle.symbol_scope.specs.Marks.{IsMarked}
+use Rattle.symbol_scope.specs.parts.Marks.{IsMarked}
 use Rattle.symbol_scope.proofs.Growing.{with_new-append, take-with_new, length-with_new, All-with_new, has_back}
 
 -- one more name
@@ -54,17 +55,13 @@ closed same needs root i members le order reached =
 
 -- ---- marks
 
-or_false : (b : Bool) → (b || false) ≡ b
-or_false true = refl
-or_false false = refl
-
 has-same : (xs : List ℕ) (n : ℕ) → has nat_eq (xs ++ n ∷ []) n ≡ true
 has-same xs n = has_back nat_eq xs (n ∷ []) n (grind (arith, nat_tests))
 
 has-other : (xs : List ℕ) (n m : ℕ) → n ≢ m → has nat_eq (xs ++ n ∷ []) m ≡ has nat_eq xs m
 has-other xs n m ne =
     let no : has nat_eq (n ∷ []) m ≡ false = grind (arith, nat_tests) in
-    list_any-append (nat_eq m) xs (n ∷ []) ∙ ap (λ b. has nat_eq xs m || b) no ∙ or_false (has nat_eq xs m)
+    list_any-append (nat_eq m) xs (n ∷ []) ∙ ap (λ b. has nat_eq xs m || b) no ∙ or-false (has nat_eq xs m)
 
 count-set : (seen : List Bool) (n : ℕ) → n < length seen → get_or seen n false ≡ false → count_by (λ b. b) (set seen n true) ≡ count_by (λ b. b) seen + 1
 count-set seen n lt e =

@@ -1,9 +1,4 @@
 pub mod Closure
 pub mod Definition
 pub mod Exported
-pub mod Exports
-pub mod Laws
-pub mod Marks
-pub mod Needs
-pub mod Slots
-pub mod Table
+pub mod parts

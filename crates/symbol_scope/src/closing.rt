@@ -3,8 +3,8 @@
 ghost use Rattle.std.specs.Prelude.{◌≡◌, ◌≤◌, ◌<◌, [], ◌∷◌, length, nat_eq, IfOk, OnOk};
 ghost use Rattle.std.specs.List.{filter_map};
 ghost use Rattle.symbol_scope.specs.Closure.{with_new, IsClosure};
-ghost use Rattle.symbol_scope.specs.Marks.{IsMarked};
-ghost use Rattle.symbol_scope.specs.Needs.{number_named, needs};
+ghost use Rattle.symbol_scope.specs.parts.Marks.{IsMarked};
+ghost use Rattle.symbol_scope.specs.parts.Needs.{number_named, needs};
 
 use crate::slots::{needed_by, number_of};
 use crate::table::Table;

@@ -6,7 +6,7 @@ ghost use Rattle.std.specs.Cmp.Lexicographic.{slice_cmp};
 ghost use Rattle.std.specs.Str.{bytes_eq};
 ghost use Rattle.std.specs.FinMap.{find, get};
 ghost use Rattle.symbol_scope.specs.Exported.{is_exported};
-ghost use Rattle.symbol_scope.specs.Exports.{entry_of, entries_of, exports_of};
+ghost use Rattle.symbol_scope.specs.parts.Exports.{export_entry, export_entries, exports_of};
 
 use elf_model::constants::{
     STB_GLOBAL, STB_WEAK, STT_FILE, STT_SECTION, STV_DEFAULT, STV_PROTECTED,
@@ -45,7 +45,7 @@ pub struct Exports {
 
 impl Model for Exports {
     ghost use Rattle.std.specs.FinMap.{from_entries};
-    ghost use Rattle.symbol_scope.specs.Exports.{ExportMap, export_map_code};
+    ghost use Rattle.symbol_scope.specs.parts.Exports.{ExportMap, export_map_code};
 
     ghost Value = { ExportMap };
 
@@ -60,7 +60,7 @@ impl Exports {
         requires { length symbols.now ≤ 2 ^ 32 }
         ensures { IfOk result (λ e. e ≡ exports_of symbols.now) }
     {
-        let entries = entries_of(alloc, symbols)?;
+        let entries = export_entries(alloc, symbols)?;
         Ok(Exports { entries })
     }
 
@@ -73,7 +73,7 @@ impl Exports {
 }
 
 fn add_entry(entries: &mut Vec<(Name, u32)>, number: u32, symbol: &Symbol) -> Result<(), Memory>
-    ensures { OnOk result (entries.new.items ≡ entries.old.items ++ option_to_list (entry_of (number, symbol.now))) }
+    ensures { OnOk result (entries.new.items ≡ entries.old.items ++ option_to_list (export_entry (number, symbol.now))) }
 {
     if !is_exported(symbol) {
         return Ok(());
@@ -85,9 +85,9 @@ fn add_entry(entries: &mut Vec<(Name, u32)>, number: u32, symbol: &Symbol) -> Re
     Ok(())
 }
 
-fn entries_of(alloc: Global, symbols: &[Symbol]) -> Result<Vec<(Name, u32)>, Memory>
+fn export_entries(alloc: Global, symbols: &[Symbol]) -> Result<Vec<(Name, u32)>, Memory>
     requires { length symbols.now ≤ 2 ^ 32 }
-    ensures { IfOk result (λ v. v.items ≡ entries_of symbols.now) }
+    ensures { IfOk result (λ v. v.items ≡ export_entries symbols.now) }
 {
     let mut entries = Vec::new(alloc);
     for (i, symbol) in symbols.iter().enumerate() {

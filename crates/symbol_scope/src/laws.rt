@@ -1,6 +1,6 @@
 //! What holds of closures and of exported names themselves. A call of one does nothing.
 
-ghost use Rattle.symbol_scope.specs.Laws.{ClosuresOfNumbers, ClosuresOfNames, ExportsAreFirst};
+ghost use Rattle.symbol_scope.specs.parts.Laws.{ClosuresOfNumbers, ClosuresOfNames, ExportsAreFirst};
 
 /// Roots have one closure, which has all that is reached from them, and each member once.
 pub fn closures_of_numbers()

@@ -2,8 +2,8 @@
 
 ghost use Rattle.std.specs.Prelude.{◌≡◌, ◌≤◌, ◌<◌, length, slice_set, IfSome, OnOk};
 ghost use Rattle.std.specs.Option.{option_copied};
-ghost use Rattle.symbol_scope.specs.Slots.{filled_up};
-ghost use Rattle.symbol_scope.specs.Needs.{is_named, number_named, table_at, needed_of, export_in};
+ghost use Rattle.symbol_scope.specs.parts.Slots.{filled_up};
+ghost use Rattle.symbol_scope.specs.parts.Needs.{is_table_named, number_named, table_at, needed_by, export_in};
 
 use crate::exports::is_same;
 use crate::table::Table;
@@ -37,8 +37,8 @@ pub(crate) fn table_at(slots: &[Option<Table>], number: u32) -> Option<&Table>
     slots.get(number as usize)?.as_ref()
 }
 
-fn is_named(slot: &Option<Table>, name: &Name) -> bool
-    ensures { result ≡ is_named name.now slot.now }
+fn is_table_named(slot: &Option<Table>, name: &Name) -> bool
+    ensures { result ≡ is_table_named name.now slot.now }
 {
     match slot {
         Some(table) => is_same(name, &table.name),
@@ -50,7 +50,7 @@ fn place_of(slots: &[Option<Table>], name: &Name) -> Option<usize>
     ensures value { result ≡ number_named slots.now name.now }
     ensures within { IfSome result (λ place. place < length slots.now) }
 {
-    slots.iter().position(|slot| is_named(slot, name))
+    slots.iter().position(|slot| is_table_named(slot, name))
 }
 
 /// The number of the module of a name.
@@ -67,7 +67,7 @@ pub(crate) fn number_of(slots: &[Option<Table>], name: &Name) -> Option<u32>
 
 /// The names that a module needs.
 pub(crate) fn needed_by(slots: &[Option<Table>], number: u32) -> &[Name]
-    ensures { result.now ≡ needed_of slots.now number }
+    ensures { result.now ≡ needed_by slots.now number }
 {
     match table_at(slots, number) {
         Some(table) => table.needed.as_slice(),

@@ -2,7 +2,7 @@
 
 ghost use Rattle.std.specs.Prelude.{◌≡◌, None};
 ghost use Rattle.symbol_scope.specs.Definition.{first_definition};
-ghost use Rattle.symbol_scope.specs.Needs.{export_in};
+ghost use Rattle.symbol_scope.specs.parts.Needs.{export_in};
 
 use crate::closing::closure_of;
 use crate::slots::{export_in, make_room, put_slot};
@@ -15,10 +15,12 @@ use std::marker::Model;
 /// The most modules that have tables. Their numbers are below it.
 pub const MAX_MODULES: u32 = 64;
 
-/// A definition: a module, and the number of a symbol of it.
+/// A definition.
 #[derive(Clone, Copy, Debug, PartialEq, Eq)]
 pub struct Found {
+    /// The number of the module that has it.
     pub module: u32,
+    /// The place of the symbol in the module's symbol table, counted from 0.
     pub symbol: u32,
 }
 
@@ -30,7 +32,7 @@ pub struct Tables {
 
 impl Model for Tables {
     ghost use Rattle.std.specs.Prelude.{◌≤◌, length};
-    ghost use Rattle.symbol_scope.specs.Slots.{Slots, slots_code, filled_up};
+    ghost use Rattle.symbol_scope.specs.parts.Slots.{Slots, slots_code, filled_up};
 
     ghost Value = { Slots };
 
@@ -45,8 +47,8 @@ impl Tables {
     ghost use Rattle.std.specs.Prelude.{◌≡◌, ◌↔◌, ◌≤◌, ◌<◌, ◌^◌, [], ◌∷◌, length, replicate, slice_set, Some, None, nat_eq, All, IfOk, OnOk, OnErr, IsNone};
     ghost use Rattle.symbol_scope.specs.Closure.{IsClosure};
     ghost use Rattle.symbol_scope.specs.Definition.{first_definition};
-    ghost use Rattle.symbol_scope.specs.Needs.{export_in, needs};
-    ghost use Rattle.symbol_scope.specs.Table.{table_of};
+    ghost use Rattle.symbol_scope.specs.parts.Needs.{export_in, needs};
+    ghost use Rattle.symbol_scope.specs.parts.Table.{table_of};
 
     /// No module has a table. Takes no memory.
     pub fn new(alloc: Global) -> Tables

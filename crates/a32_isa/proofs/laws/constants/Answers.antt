@@ -6,3 +6,6 @@ returns-clause-gives c = law.gives-exactly
 
 pub returns-clause-back : goal.returns-clause-back
 returns-clause-back c = law.constant_of-back
+
+pub returns-clause-fits : goal.returns-clause-fits
+returns-clause-fits c = law.constant_fits

@@ -1,6 +1,6 @@
 use Rattle.std.proofs.Common.{◌≡◌, ◌%◌, ap, sym, subst, ◌∙◌}
-use Rattle.guest_mem.specs.Memory.{Memory}
-use Rattle.guest_mem.specs.Kept.{Keeps}
+use Rattle.guest_mem.specs.Memory.{GuestMemory}
+use Rattle.guest_mem.specs.parts.Kept.{Keeps}
 use Rattle.a32_machine.specs.Registers.{pc_of}
 use Rattle.a32_machine.specs.Stepped.{Stepped}
 use Rattle.a32_machine.specs.Step.{step_of}
@@ -11,7 +11,7 @@ use Rattle.a32_machine.proofs.machine.step.Goals as goal
 pub returns-clause-keeps : goal.returns-clause-keeps
 returns-clause-keeps c =
     let same : c.stepped.new.guest ≡ (step_of c.args.cpu.now c.args.guest.now).memory = ap (λ (s : Stepped). s.memory) c.stepped.ensures in
-    subst (λ (m : Memory). Keeps c.args.guest.now m) (sym same) (step_of-frames c.args.cpu.now c.args.guest.now).keeps
+    subst (λ (m : GuestMemory). Keeps c.args.guest.now m) (sym same) (step_of-frames c.args.cpu.now c.args.guest.now).keeps
 
 pub returns-clause-stops : goal.returns-clause-stops
 returns-clause-stops c = λ stop e.

@@ -2,7 +2,7 @@ use Rattle.std.proofs.Common.{◌++◌, map, take, append-nil, arith}
 use Rattle.std.proofs.lemmas.Result.{err_from_is_err_and}
 use Rattle.elf_model.specs.Relocations.{word_site}
 use Rattle.elf_model.proofs.Tests.{items_none, items_more}
-use Rattle.elf_read.specs.Fixups.{fixup_test, fixup_tests}
+use Rattle.elf_read.specs.parts.Fixups.{fixup_test, fixup_tests}
 use Rattle.elf_read.proofs.Filling.{has_fixups_more}
 use Rattle.elf_read.proofs.Loops.{items_stop}
 use Rattle.elf_read.proofs.fixups.check_fixups.Goals as goal

@@ -2,8 +2,8 @@ use Rattle.std.proofs.Common.{◌≡◌, None, List, ◌++◌, map, take}
 use Rattle.elf_model.specs.declared.table.Site.{Site}
 use Rattle.elf_model.specs.Test.{first_failing, each_from}
 use Rattle.elf_model.specs.Relocations.{word_site}
-use Rattle.elf_read.specs.Fixups as spec
-use Rattle.elf_read.specs.Taken.{Has}
+use Rattle.elf_read.specs.parts.Fixups as spec
+use Rattle.elf_read.specs.parts.Taken.{Has}
 use Rattle.elf_read.proofs.fixups.check_fixups.Given as goal
 
 abbrev pub invariant-loop-k : goal.invariant-loop-k

@@ -2,9 +2,9 @@ use Rattle.std.proofs.Common.{◌∙◌, arith}
 use Rattle.std.proofs.lemmas.Result.{err_from_is_err_and}
 use Rattle.elf_model.specs.Test.{each_from}
 use Rattle.elf_model.specs.Dynamic as spec
-use Rattle.elf_model.specs.Dynamic.{needed_tests, needed_of}
+use Rattle.elf_model.specs.Dynamic.{needed_tests}
 use Rattle.elf_model.proofs.Tests.{items_none, items_more}
-use Rattle.elf_read.specs.Passes.{IsRefusal}
+use Rattle.elf_read.specs.parts.Passes.{IsRefusal}
 use Rattle.elf_read.proofs.Loops.{items_stop, mapped_more}
 use Rattle.elf_read.proofs.names.read_needed.Goals as goal
 

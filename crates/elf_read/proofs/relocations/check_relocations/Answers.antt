@@ -2,7 +2,7 @@ use Rattle.std.proofs.Common.{[], ◌∷◌, subst, arith}
 use Rattle.std.proofs.lemmas.Result.{err_from_is_err_and}
 use Rattle.elf_model.specs.declared.table.Site.{Site}
 use Rattle.elf_model.specs.Relocations as spec
-use Rattle.elf_read.specs.Taken.{Has}
+use Rattle.elf_read.specs.parts.Taken.{Has}
 use Rattle.elf_model.specs.Relocations.{all_rel_tests}
 use Rattle.elf_model.proofs.Tests.{items_none, items_more}
 use Rattle.elf_read.proofs.Loops.{items_stop}

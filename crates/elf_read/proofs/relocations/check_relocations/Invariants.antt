@@ -1,7 +1,7 @@
 use Rattle.std.proofs.Common.{◌≡◌, None, take}
 use Rattle.elf_model.specs.Test.{first_failing, each_from}
 use Rattle.elf_model.specs.Relocations as spec
-use Rattle.elf_read.specs.Taken.{Has}
+use Rattle.elf_read.specs.parts.Taken.{Has}
 use Rattle.elf_read.proofs.relocations.check_relocations.Given as goal
 
 abbrev pub invariant-loop-e : goal.invariant-loop-e

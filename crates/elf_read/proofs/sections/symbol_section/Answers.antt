@@ -2,7 +2,7 @@ use Rattle.std.proofs.Common.{◌≡◌, sym, true, arith}
 use Rattle.std.proofs.lemmas.Bool.Decides.{nat_tests}
 use Rattle.elf_model.specs.Header.{e_shnum}
 use Rattle.elf_model.specs.Sections as spec
-use Rattle.elf_read.specs.SectionTable.{is_symbols_at}
+use Rattle.elf_read.specs.parts.HeaderTables.{is_symbols_at}
 use Rattle.elf_read.proofs.Places.{found_is, none_found}
 use Rattle.elf_read.proofs.sections.symbol_section.Goals as goal
 

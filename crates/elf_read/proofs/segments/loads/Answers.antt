@@ -8,7 +8,7 @@ use Rattle.elf_model.specs.Test.{first_failing}
 use Rattle.elf_model.specs.Segments as spec
 use Rattle.elf_model.specs.Segments.{segment_tests}
 use Rattle.elf_model.proofs.Tests.{below_none, below_more}
-use Rattle.elf_read.specs.Passes.{IsRefusal}
+use Rattle.elf_read.specs.parts.Passes.{IsRefusal}
 use Rattle.elf_read.proofs.Loops.{below_stops}
 use Rattle.elf_read.proofs.segments.loads.Goals as goal
 use Rattle.elf_read.proofs.segments.loads.Goals.{then-is_load+in_ok-push, else-is_load}

@@ -1,5 +1,5 @@
-use Rattle.std.proofs.Common.{◌≡◌, List, ℕ, Option, Some, drop, take, position, subst, sym, ap, ◌∙◌}
-use Rattle.elf_read.specs.Strings.{IsString}
+use Rattle.std.proofs.Common.{◌≡◌, List, ℕ, Some, drop, take, position, subst, sym, ap, ◌∙◌}
+use Rattle.elf_read.specs.parts.Strings.{IsString}
 use Rattle.elf_read.proofs.Near.{is_zero, near_string}
 use Rattle.elf_read.proofs.strings.string_at.Goals as goal
 

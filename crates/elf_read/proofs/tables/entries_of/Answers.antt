@@ -1,5 +1,5 @@
 use Rattle.std.proofs.Common.{◌≡◌, ℕ, ◌+◌, ◌*◌, Bool, true, false, not, sym, ap, ◌∙◌}
-use Rattle.elf_read.specs.Tables.{is_inside}
+use Rattle.elf_read.specs.parts.Tables.{is_inside}
 use Rattle.elf_read.proofs.Ranges.{entries_more, entries_same}
 use Rattle.elf_read.proofs.tables.entries_of.Goals as goal
 use Rattle.elf_read.proofs.tables.entries_of.Goals.{then-not-is_inside+in_ok-push, else-not-is_inside}

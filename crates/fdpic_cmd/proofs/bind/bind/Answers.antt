@@ -1,5 +1,5 @@
 use Rattle.fdpic_cmd.specs.Bind.{refusal_of}
-use Rattle.fdpic_cmd.proofs.Loading.{given_failure}
+use Rattle.fdpic_cmd.proofs.SlotListings.{given_failure}
 use Rattle.fdpic_cmd.proofs.bind.bind.Goals as goal
 
 pub returns-clause-answer : goal.returns-clause-answer

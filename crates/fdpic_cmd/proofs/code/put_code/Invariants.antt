@@ -1,7 +1,8 @@
 use Rattle.std.proofs.Common.{◌≡◌, ◌++◌, drop}
 use Rattle.std.specs.Prelude.{filter}
 use Rattle.std.specs.List.{flat_map}
-use Rattle.fdpic_cmd.specs.Code.{segment_code, is_executable}
+use Rattle.fdpic_cmd.specs.Code.{segment_code}
+use Rattle.elf_model.specs.Places.{is_executable}
 use Rattle.fdpic_cmd.proofs.code.put_code.Given as goal
 
 abbrev pub invariant-loop-segment : goal.invariant-loop-segment

@@ -1,7 +1,7 @@
 use Rattle.std.proofs.Common.{◌≡◌, ◌∙◌, ap, ◌++◌, ◌*◌, ◌+◌}
 use Rattle.fd_base.specs.Words.{word_in}
 use Rattle.fdpic_cmd.specs.Code.{segment_code_line, code_line}
-use Rattle.fdpic_cmd.proofs.Coded.{put_more}
+use Rattle.fdpic_cmd.proofs.CodeLines.{put_more}
 use Rattle.fdpic_cmd.proofs.code.put_segment_code.Goals as goal
 
 pub loop-k-preserved : goal.loop-k-preserved

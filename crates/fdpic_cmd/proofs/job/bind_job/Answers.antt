@@ -1,5 +1,5 @@
 use Rattle.std.proofs.lemmas.Result.{err_from_is_err_and}
-use Rattle.fdpic_cmd.proofs.Jobbed.{given_error}
+use Rattle.fdpic_cmd.proofs.JobFiles.{given_error}
 use Rattle.fdpic_cmd.proofs.job.bind_job.Goals as goal
 
 pub returns-in_err-program_slots-clause-answer : goal.returns-in_err-program_slots-clause-answer

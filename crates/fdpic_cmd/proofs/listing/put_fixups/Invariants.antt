@@ -1,5 +1,6 @@
 use Rattle.std.proofs.Common.{◌≡◌, ◌++◌, drop}
-use Rattle.fdpic_cmd.specs.Listing.{numbered, fixup_line}
+use Rattle.fdpic_cmd.specs.Listing.{fixup_line}
+use Rattle.fd_base.specs.Fields.{numbered}
 use Rattle.fdpic_cmd.proofs.listing.put_fixups.Given as goal
 
 abbrev pub invariant-loop-i : goal.invariant-loop-i

@@ -1,4 +1,4 @@
-use Rattle.fdpic_cmd.proofs.Ran.{ran}
+use Rattle.fdpic_cmd.proofs.RunCommand.{ran}
 use Rattle.fdpic_cmd.proofs.run.run_job.Goals as goal
 
 pub returns-in-Ok-clause-ends : goal.returns-in-Ok-clause-ends

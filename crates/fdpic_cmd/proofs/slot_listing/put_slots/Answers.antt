@@ -2,7 +2,7 @@ use Rattle.std.proofs.Common.{sym, arith, length, ◌≤◌}
 use Rattle.std.proofs.lemmas.List.{drop_all}
 use Rattle.load_state.specs.Slots.{slots_of_module}
 use Rattle.fdpic_cmd.specs.Slots.{slot_line}
-use Rattle.fdpic_cmd.proofs.Listed.{from_none, few_slots, lines_there, lines_none}
+use Rattle.fdpic_cmd.proofs.SlotLines.{from_none, few_slots, lines_there, lines_none}
 use Rattle.fdpic_cmd.proofs.slot_listing.put_slots.Goals as goal
 
 pub returns-in-None : goal.returns-in-None

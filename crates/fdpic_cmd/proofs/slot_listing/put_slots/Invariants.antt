@@ -1,6 +1,6 @@
 use Rattle.std.proofs.Common.{◌≡◌, ◌++◌, drop}
 use Rattle.load_state.specs.Slots.{slots_of_module}
-use Rattle.fdpic_cmd.specs.Listing.{numbered}
+use Rattle.fd_base.specs.Fields.{numbered}
 use Rattle.fdpic_cmd.specs.Slots.{slot_line, module_lines}
 use Rattle.fdpic_cmd.proofs.slot_listing.put_slots.Given as goal
 

@@ -1,7 +1,7 @@
 use Rattle.std.proofs.Common.{[], arith}
 use Rattle.fdpic_cmd.specs.Slots.{module_lines}
-use Rattle.fdpic_cmd.proofs.Coded.{put_more}
-use Rattle.fdpic_cmd.proofs.Listed.{all_lines}
+use Rattle.fdpic_cmd.proofs.CodeLines.{put_more}
+use Rattle.fdpic_cmd.proofs.SlotLines.{all_lines}
 use Rattle.fdpic_cmd.proofs.slot_listing.slot_listing.Goals as goal
 
 pub loop-m-preserved : goal.loop-m-preserved

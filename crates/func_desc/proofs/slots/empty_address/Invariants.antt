@@ -1,6 +1,6 @@
 use Rattle.std.proofs.Common.{◌≡◌, drop}
 use Rattle.std.specs.Prelude.{slice_get}
-use Rattle.func_desc.specs.Inside.{free_from}
+use Rattle.func_desc.specs.parts.Inside.{free_from}
 use Rattle.func_desc.proofs.slots.empty_address.Given as goal
 
 -- as many empty slots are left to pass as the slots so far leave

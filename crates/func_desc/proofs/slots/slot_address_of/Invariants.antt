@@ -1,7 +1,7 @@
 use Rattle.std.proofs.Common.{◌≡◌, drop}
 use Rattle.std.specs.FinMap.{find}
 use Rattle.func_desc.specs.Functions.{func_cmp}
-use Rattle.func_desc.specs.Inside.{slot_entries}
+use Rattle.func_desc.specs.parts.Inside.{slot_entries}
 use Rattle.func_desc.proofs.slots.slot_address_of.Given as goal
 
 -- no slot so far decides

@@ -1,7 +1,6 @@
-use Rattle.std.proofs.Common.{sym, ◌∙◌}
+use Rattle.std.proofs.Common.{sym, ◌∙◌, refl}
 use Rattle.std.proofs.lemmas.List.{take_rest}
-use Rattle.job_text.proofs.Parting.{at_other, other_first, no_other, no_fields}
-use Rattle.std.proofs.Common.{refl}
+use Rattle.job_text.proofs.LineFields.{at_other, other_first, no_other, no_fields}
 use Rattle.job_text.proofs.fields.behind_spaces.Goals as goal
 
 pub returns-in-Some-clause-fields : goal.returns-in-Some-clause-fields

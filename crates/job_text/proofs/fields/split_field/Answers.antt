@@ -1,6 +1,6 @@
 use Rattle.std.proofs.Common.{sym}
 use Rattle.std.proofs.lemmas.List.{take_rest}
-use Rattle.job_text.proofs.Parting.{fields_at_space, fields_no_space}
+use Rattle.job_text.proofs.LineFields.{fields_at_space, fields_no_space}
 use Rattle.job_text.proofs.fields.split_field.Goals as goal
 
 pub returns-in-Some : goal.returns-in-Some

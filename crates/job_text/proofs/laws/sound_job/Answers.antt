@@ -1,5 +1,5 @@
 use Rattle.fd_base.specs.Lines.{lines_of}
-use Rattle.job_text.proofs.Sounding.{job_sound}
+use Rattle.job_text.proofs.SoundJobs.{job_sound}
 use Rattle.job_text.proofs.laws.sound_job.Goals as goal
 
 pub returns : goal.returns

@@ -1,4 +1,4 @@
-use Rattle.job_text.proofs.Exact.{answer_fits, answer_sound}
+use Rattle.job_text.proofs.ExactAnswers.{answer_fits, answer_sound}
 use Rattle.job_text.proofs.read.read_job.Goals as goal
 
 pub returns-clause-fits : goal.returns-clause-fits

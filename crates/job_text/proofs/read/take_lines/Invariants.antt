@@ -1,5 +1,5 @@
 use Rattle.std.proofs.Common.{◌≡◌, length}
-use Rattle.job_text.proofs.Collecting.{Taken}
+use Rattle.job_text.proofs.JobLines.{Taken}
 use Rattle.job_text.proofs.read.take_lines.Given as goal
 
 -- the lines so far are taken, and `last` is the number of the last of them

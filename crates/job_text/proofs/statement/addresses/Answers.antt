@@ -1,5 +1,5 @@
 use Rattle.std.proofs.Common.{sym, ◌∙◌, arith}
-use Rattle.job_text.proofs.Addressing.{Gathered-unread, Gathered-full}
+use Rattle.job_text.proofs.AddressFields.{Gathered-unread, Gathered-full}
 use Rattle.job_text.proofs.statement.addresses.Goals as goal
 
 pub returns-in_default-number : goal.returns-in_default-number

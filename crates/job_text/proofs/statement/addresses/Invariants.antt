@@ -1,5 +1,5 @@
 use Rattle.std.proofs.Common.{length}
-use Rattle.job_text.proofs.Addressing.{Gathered}
+use Rattle.job_text.proofs.AddressFields.{Gathered}
 use Rattle.job_text.proofs.statement.addresses.Given as goal
 
 -- the addresses so far are those of the fields so far

@@ -2,8 +2,8 @@ use Rattle.std.proofs.Common.{◌≡◌, rules}
 use Rattle.std.specs.Iterator.Adapters.{zip_first, zip_second}
 use Rattle.std.specs.Slice.Iter.{iter_rest}
 use Rattle.std.proofs.lemmas.Slice.Zip.{zip_end}
-use Rattle.load_image.specs.Places.{placing_of}
-use Rattle.load_image.proofs.Valued.{values_all}
+use Rattle.load_image.specs.Places.{placing_in}
+use Rattle.load_image.proofs.SiteValues.{values_all}
 use Rattle.load_image.proofs.filling.push_values.Goals as goal
 
 pub returns : goal.returns
@@ -12,4 +12,4 @@ returns c =
     let first : iter_rest (zip_first s) ≡ c.args.rels.now = search rules in
     let second : iter_rest (zip_second s) ≡ c.args.values.now = search rules in
     let end = zip_end c.args.rels.now c.args.values.now c.loop-rel.yielded s c.loop-rel.rel-iterator c.next.new.self c.next.result first second c.loop-rel.yielded_by c.in-None.is c.next.ensures.steps in
-    values_all (placing_of c.args.places.now) c.args.m c.args.object.now _ _ _ _ _ end c.loop-rel.invariant
+    values_all (placing_in c.args.places.now) c.args.m c.args.object.now _ _ _ _ _ end c.loop-rel.invariant

@@ -1,5 +1,5 @@
 use Rattle.std.proofs.Common.{arith}
-use Rattle.load_image.proofs.Parts.{part_byte}
+use Rattle.load_image.proofs.ImageParts.{part_byte}
 use Rattle.load_image.proofs.finished.part.Goals as goal
 
 pub returns-clause-bytes : goal.returns-clause-bytes

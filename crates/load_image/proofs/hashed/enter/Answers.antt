@@ -1,5 +1,5 @@
 use Rattle.std.proofs.Common.{sym, ◌∙◌}
-use Rattle.load_image.proofs.Entered.{entered}
+use Rattle.load_image.proofs.HashedEntries.{entered}
 use Rattle.load_image.proofs.hashed.enter.Goals as goal
 
 pub returns-in-Ok : goal.returns-in-Ok

@@ -1,4 +1,4 @@
-use Rattle.load_image.proofs.Entered.{entered_more}
+use Rattle.load_image.proofs.HashedEntries.{entered_more}
 use Rattle.load_image.proofs.hashed.enter_all.Goals as goal
 
 pub loop-entry-preserved : goal.loop-entry-preserved

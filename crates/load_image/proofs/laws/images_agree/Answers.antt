@@ -1,4 +1,4 @@
-use Rattle.load_image.proofs.Frame.{by_words, by_values, by_parts}
+use Rattle.load_image.proofs.ImageFrame.{by_words, by_values, by_parts}
 use Rattle.load_image.proofs.laws.images_agree.Goals as goal
 
 pub returns : goal.returns

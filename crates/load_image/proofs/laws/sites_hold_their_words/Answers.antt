@@ -1,4 +1,4 @@
-use Rattle.load_image.proofs.Standing.{site_stands, header_stands, others_stay}
+use Rattle.load_image.proofs.StandingWords.{site_stands, header_stands, others_stay}
 use Rattle.load_image.proofs.laws.sites_hold_their_words.Goals as goal
 
 pub returns : goal.returns

@@ -1,5 +1,5 @@
 use Rattle.std.proofs.Common.{arith}
-use Rattle.load_image.proofs.Itemized.{length-items_of, items_owned, items_sized}
+use Rattle.load_image.proofs.ModuleItems.{length-items_of, items_owned, items_sized}
 use Rattle.load_image.proofs.segments.items.Goals as goal
 
 pub returns-clause-count : goal.returns-clause-count

@@ -1,4 +1,4 @@
-use Rattle.load_image.proofs.Itemized.{mapped}
+use Rattle.load_image.proofs.ModuleItems.{mapped}
 use Rattle.load_image.proofs.segments.load_map.Goals as goal
 
 pub returns-clause-mapped : goal.returns-clause-mapped

@@ -1,6 +1,6 @@
 use Rattle.std.proofs.Common.{ℕ, ◌<◌, get_or}
-use Rattle.fd_base.specs.declared.map.MapEntry.{MapEntry}
-use Rattle.load_image.specs.Bounds.{EndsBelow}
+use Rattle.load_map.specs.declared.entry.MapEntry.{MapEntry}
+use Rattle.load_map.specs.parts.IsLoadMap.{EndsBelow}
 use Rattle.load_image.proofs.tests.end_below.Given as goal
 
 -- the entries so far end below 2^32

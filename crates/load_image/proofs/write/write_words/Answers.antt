@@ -1,5 +1,5 @@
 use Rattle.std.proofs.Common.{arith}
-use Rattle.load_image.proofs.Writing.{written_more}
+use Rattle.load_image.proofs.WrittenWords.{written_more}
 use Rattle.load_image.proofs.write.write_words.Goals as goal
 
 pub loop-left-preserved-then-word-end : goal.loop-left-preserved-then-word-end

@@ -1,7 +1,7 @@
 use Rattle.std.proofs.Common.{arith, ◌≤◌, ◌-◌}
 use Rattle.load_model.specs.Layout.{slots_end}
 use Rattle.load_model.specs.Plan.{high_of}
-use Rattle.load_memory.proofs.Empty.{slots_below, free1, free2, kind3, mark3}
+use Rattle.load_memory.proofs.EmptyMemory.{slots_below, free1, free2, kind3, mark3}
 use Rattle.load_memory.proofs.fresh.map_fixed.Goals as goal
 
 pub map-requires-2-clause-free : goal.map-requires-2-clause-free

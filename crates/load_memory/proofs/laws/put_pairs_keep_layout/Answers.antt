@@ -1,4 +1,4 @@
-use Rattle.load_memory.proofs.Kept.{laid_out_alike, laid_out_pair}
+use Rattle.load_memory.proofs.KeptLayout.{laid_out_alike, laid_out_pair}
 use Rattle.load_memory.proofs.laws.put_pairs_keep_layout.Goals as goal
 
 pub returns-clause-alike : goal.returns-clause-alike

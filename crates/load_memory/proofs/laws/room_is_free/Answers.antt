@@ -1,4 +1,4 @@
-use Rattle.load_memory.proofs.Kept.{room-tables, room-inside, room-free}
+use Rattle.load_memory.proofs.KeptLayout.{room-tables, room-inside, room-free}
 use Rattle.load_memory.proofs.laws.room_is_free.Goals as goal
 
 pub returns-clause-tables : goal.returns-clause-tables

@@ -1,4 +1,4 @@
-use Rattle.load_memory.proofs.Kept.{stores_keep-layout, stores_keep-watched, stores_keep-fixed, stores_keep-segments}
+use Rattle.load_memory.proofs.KeptLayout.{stores_keep-layout, stores_keep-watched, stores_keep-fixed, stores_keep-segments}
 use Rattle.load_memory.proofs.laws.stores_keep.Goals as goal
 
 pub returns-clause-layout : goal.returns-clause-layout

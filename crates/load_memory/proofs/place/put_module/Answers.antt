@@ -1,11 +1,11 @@
 use Rattle.std.proofs.Common.{◌≡◌, ℕ, List, length, refl, ap, sym, subst, ◌∙◌}
 use Rattle.std.proofs.lemmas.Slice.Zip.{AllZip-long}
-use Rattle.fd_base.specs.declared.map.MapEntry.{MapEntry}
+use Rattle.load_map.specs.declared.entry.MapEntry.{MapEntry}
 use Rattle.elf_model.specs.declared.object.Segment.{Segment}
-use Rattle.load_memory.specs.Placing.{AreMapped}
-use Rattle.load_memory.proofs.Added.{laid_out_more}
-use Rattle.load_memory.proofs.Outside.{kind_outside, watch_outside}
-use Rattle.load_memory.proofs.Steps.{entries_count, entries_few, entries_end, mapped_still, watchable_got, watchable_rels, watchable_slots, parts_now, rest_now}
+use Rattle.load_memory.specs.parts.PlacingSteps.{AreMapped}
+use Rattle.load_memory.proofs.AddedModule.{laid_out_more}
+use Rattle.load_memory.proofs.OtherAddresses.{kind_outside, watch_outside}
+use Rattle.load_memory.proofs.PlacingSteps.{entries_count, entries_few, entries_end, mapped_still, watchable_got, watchable_rels, watchable_slots, parts_now, rest_now}
 use Rattle.load_memory.proofs.place.put_module.Goals as goal
 
 pub map_segments-requires-clause-count : goal.map_segments-requires-clause-count

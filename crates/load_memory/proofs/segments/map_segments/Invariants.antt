@@ -1,6 +1,6 @@
 use Rattle.std.proofs.Common.{◌≡◌}
 use Rattle.guest_mem.specs.Memory.{IsMemory}
-use Rattle.load_memory.specs.Placing.{AreMapped}
+use Rattle.load_memory.specs.parts.PlacingSteps.{AreMapped}
 use Rattle.load_memory.proofs.segments.map_segments.Given as goal
 
 -- the segments so far are mapped

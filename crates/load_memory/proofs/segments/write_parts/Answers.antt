@@ -3,10 +3,10 @@ use Rattle.std.specs.Prelude.{slice_get}
 use Rattle.std.proofs.lemmas.List.Elements.{All-get_or}
 use Rattle.std.proofs.lemmas.Option.{slice_get-get_or, slice_get_read}
 use Rattle.std.proofs.lemmas.Slice.Zip.{AllZip-long}
-use Rattle.fd_base.specs.declared.map.MapEntry.{MapEntry}
+use Rattle.load_map.specs.declared.entry.MapEntry.{MapEntry}
 use Rattle.guest_mem.specs.Accesses.{with_bytes}
-use Rattle.load_memory.proofs.Placed.{AreFilled-more}
-use Rattle.load_memory.proofs.Zipped.{zip_at}
+use Rattle.load_memory.proofs.PlacedSegments.{AreFilled-more}
+use Rattle.load_memory.proofs.PairedLists.{zip_at}
 use Rattle.load_memory.proofs.segments.write_parts.Goals as goal
 
 pub bounds-parts-k : goal.bounds-parts-k

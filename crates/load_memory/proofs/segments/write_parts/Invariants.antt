@@ -1,4 +1,4 @@
-use Rattle.load_memory.specs.Placing.{AreFilled}
+use Rattle.load_memory.specs.parts.PlacingSteps.{AreFilled}
 use Rattle.load_memory.proofs.segments.write_parts.Given as goal
 
 -- the segments so far are written

@@ -1,13 +1,13 @@
 use Rattle.std.proofs.Common.{List, [], ◌∷◌, subst, arith}
 use Rattle.std.specs.Prelude.{All}
 use Rattle.std.proofs.lemmas.List.Elements.{All-nil, All-cons}
-use Rattle.fd_base.specs.declared.map.MapEntry.{MapEntry}
+use Rattle.load_map.specs.declared.entry.MapEntry.{MapEntry}
 use Rattle.load_model.specs.declared.plan.MemPlan.{MemPlan}
 use Rattle.load_model.specs.Layout.{IsLaidOut}
 use Rattle.load_model.specs.Plan.{Fits}
-use Rattle.load_memory.specs.Modules.{nothing}
-use Rattle.load_memory.specs.Placing.{LiesWithin}
-use Rattle.load_memory.proofs.Kept.{room-free}
+use Rattle.load_memory.specs.parts.Modules.{nothing}
+use Rattle.load_memory.specs.parts.PlacingSteps.{LiesWithin}
+use Rattle.load_memory.proofs.KeptLayout.{room-free}
 use Rattle.load_memory.proofs.tests.one_module.Goals as goal
 
 abbrev plan : MemPlan

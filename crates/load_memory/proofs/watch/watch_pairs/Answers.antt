@@ -1,7 +1,7 @@
 use Rattle.std.proofs.Common.{[], ◌∷◌, get_or, take, sym, subst}
 use Rattle.std.proofs.lemmas.List.{take_more}
-use Rattle.load_memory.specs.Watching.{AreWatched, pair_ranges}
-use Rattle.load_memory.proofs.Marked.{AreWatched-append, pair_ranges-append}
+use Rattle.load_memory.specs.parts.WatchedRanges.{AreWatched, pair_ranges}
+use Rattle.load_memory.proofs.WatchedRanges.{AreWatched-append, pair_ranges-append}
 use Rattle.load_memory.proofs.watch.watch_pairs.Goals as goal
 
 pub loop-rel-preserved : goal.loop-rel-preserved

@@ -1,5 +1,5 @@
 use Rattle.std.proofs.Common.{take}
-use Rattle.load_memory.specs.Watching.{AreWatched, pair_ranges}
+use Rattle.load_memory.specs.parts.WatchedRanges.{AreWatched, pair_ranges}
 use Rattle.load_memory.proofs.watch.watch_pairs.Given as goal
 
 -- the descriptors so far are watched

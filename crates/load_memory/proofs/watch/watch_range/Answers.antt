@@ -2,8 +2,8 @@ use Rattle.std.proofs.Common.{◌∙◌, ap, sym, subst, cond, Some}
 use Rattle.guest_mem.specs.declared.kind.MemKind.TheVariants.{Code, Data}
 use Rattle.guest_mem.specs.Memory.{HaveKind}
 use Rattle.guest_mem.specs.Ranges.{with_marks}
-use Rattle.load_model.specs.Image.{placed}
-use Rattle.load_memory.proofs.Marked.{AreWatched-one}
+use Rattle.load_map.specs.Translation.{placed}
+use Rattle.load_memory.proofs.WatchedRanges.{AreWatched-one}
 use Rattle.load_memory.proofs.watch.watch_range.Goals as goal
 
 pub returns-then-not-is_executable_in : goal.returns-then-not-is_executable_in

@@ -1,7 +1,7 @@
 use Rattle.std.proofs.Common.{[], ◌∷◌, ◌++◌, sym, subst}
-use Rattle.load_model.specs.Image.{placed}
-use Rattle.load_memory.specs.Watching.{AreWatched, pair_ranges}
-use Rattle.load_memory.proofs.Marked.{AreWatched-append, watched_ranges-parts}
+use Rattle.load_map.specs.Translation.{placed}
+use Rattle.load_memory.specs.parts.WatchedRanges.{AreWatched, pair_ranges}
+use Rattle.load_memory.proofs.WatchedRanges.{AreWatched-append, watched_ranges-parts}
 use Rattle.load_memory.proofs.watch.watch_ranges.Goals as goal
 
 pub returns : goal.returns

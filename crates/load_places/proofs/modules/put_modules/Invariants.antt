@@ -1,5 +1,5 @@
 use Rattle.std.proofs.Common.{take}
-use Rattle.load_places.proofs.Adding.{ArePlaced}
+use Rattle.load_places.proofs.AddedModules.{ArePlaced}
 use Rattle.load_places.proofs.modules.put_modules.Given as goal
 
 -- the modules so far are placed

@@ -1,8 +1,8 @@
 use Rattle.std.proofs.Common.{[], ◌∷◌, subst}
-use Rattle.load_memory.specs.Modules.{nothing}
+use Rattle.load_memory.specs.parts.Modules.{nothing}
 use Rattle.load_model.specs.declared.plan.MemPlan.{MemPlan}
 use Rattle.load_model.specs.Layout.{IsLaidOut}
-use Rattle.load_places.proofs.Tiny.{two_placeable}
+use Rattle.load_places.proofs.TinyModules.{two_placeable}
 use Rattle.load_places.proofs.tests.two_modules.Goals as goal
 
 pub put_modules-requires : goal.put_modules-requires

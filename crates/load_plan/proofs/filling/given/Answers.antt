@@ -1,6 +1,6 @@
 use Rattle.std.proofs.Common.{sym, ◌∙◌}
 use Rattle.func_desc.specs.Pool.{free_slots}
-use Rattle.load_plan.proofs.Ranged.{zip_all, zip_more}
+use Rattle.load_plan.proofs.PairedLists.{zip_all, zip_more}
 use Rattle.load_plan.proofs.filling.given.Goals as goal
 
 pub loop-i-preserved : goal.loop-i-preserved

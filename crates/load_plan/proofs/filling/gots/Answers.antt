@@ -1,6 +1,6 @@
 use Rattle.std.proofs.Common.{sym, arith}
 use Rattle.std.proofs.lemmas.List.FromFn.{map-range_with_len_more}
-use Rattle.load_plan.specs.Filling.{gots_of}
+use Rattle.load_state.specs.Accepted.{gots_of}
 use Rattle.load_plan.proofs.filling.gots.Goals as goal
 
 pub loop-m-preserved : goal.loop-m-preserved

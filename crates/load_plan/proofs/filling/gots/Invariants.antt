@@ -1,6 +1,6 @@
 use Rattle.std.proofs.Common.{◌≡◌, map}
 use Rattle.std.specs.List.{range_with_len}
-use Rattle.load_plan.specs.Filling.{gots_of}
+use Rattle.load_state.specs.Accepted.{gots_of}
 use Rattle.load_plan.proofs.filling.gots.Given as goal
 
 abbrev pub invariant-loop-m : goal.invariant-loop-m

@@ -1,15 +1,16 @@
 use Rattle.std.proofs.Common.{take, sym}
-use Rattle.load_image.specs.Places.{map_at, placing_of}
-use Rattle.load_image.specs.Words.{FitSites}
-use Rattle.load_image.proofs.Zips.{zip_at, zip_push}
+use Rattle.load_image.specs.Places.{placing_in}
+use Rattle.load_map.specs.Maps.{map_at}
+use Rattle.load_image.specs.parts.Words.{FitSites}
+use Rattle.fd_base.proofs.Lists.{zip-get_or, zip_push}
 use Rattle.std.proofs.lemmas.List.{take_more}
-use Rattle.load_plan.specs.Filling.{AreImages}
-use Rattle.load_plan.proofs.Valued.{values_at}
+use Rattle.load_plan.specs.parts.FinishedBytes.{AreImages}
+use Rattle.load_plan.proofs.SiteValues.{values_at}
 use Rattle.load_plan.proofs.filling.parts.Goals as goal
 
 pub image-requires-clause-values : goal.image-requires-clause-values
 image-requires-clause-values c =
-    let fit = zip_at (λ j v. FitSites j.object v) c.args.joining.now c.args.values.now c.loop-i.i c.index-joining-i.result c.index-values-i.result c.requires.fit c.loop-i-test.true in
+    let fit = zip-get_or (λ j v. FitSites j.object v) c.args.joining.now c.args.values.now c.loop-i.i c.index-joining-i.result c.index-values-i.result c.requires.fit c.loop-i-test.true in
     rw c.as_slice.ensures (rw (sym c.index-joining-i.is, sym c.index-values-i.is) at fit)
 
 pub loop-i-preserved : goal.loop-i-preserved
@@ -19,6 +20,6 @@ loop-i-preserved c = λ k known.
     let known_here = values_at k joining c.args.values.now c.loop-i.i new c.index-values-i.result known c.loop-i-test.true in
     let known_there = rw (sym c.index-joining-i.is, sym c.index-values-i.is) at known_here in
     let made = c.in_ok-part.ensures k (rw c.as_slice.ensures known_there) in
-    let all = zip_push (AreImages k (placing_of c.args.places.now) (map_at c.args.places.now.maps)) (take c.loop-i.i joining) c.loop-i.parts new c.in_ok-part.part (c.loop-i.invariant k known) made in
+    let all = zip_push (AreImages k (placing_in c.args.places.now) (map_at c.args.places.now.maps)) (take c.loop-i.i joining) c.loop-i.parts new c.in_ok-part.part (c.loop-i.invariant k known) made in
     let more = rw (sym c.index-joining-i.is) at (take_more joining c.loop-i.i new c.loop-i-test.true) in
     rw (c.in_ok-push.ensures, more) all

@@ -1,5 +1,5 @@
 use Rattle.std.proofs.Common.{sym, ◌∙◌, arith}
-use Rattle.load_plan.proofs.Laid.{placed_length, items_length, ends_after}
+use Rattle.load_plan.proofs.LaidSegments.{placed_length, items_length, ends_after}
 use Rattle.load_plan.proofs.layout.lay_out.Goals as goal
 
 pub place-requires-clause-few : goal.place-requires-clause-few

@@ -1,4 +1,5 @@
-use Rattle.load_plan.proofs.Joined.{own_of, free_of}
+use Rattle.load_laws.proofs.NewNumbers.{own_of}
+use Rattle.load_plan.proofs.WalkedModules.{free_of}
 use Rattle.load_plan.proofs.linking.enter.Goals as goal
 
 pub add_all-requires-clause-numbers : goal.add_all-requires-clause-numbers

@@ -1,9 +1,9 @@
 use Rattle.std.proofs.Common.{ap, ◌∙◌}
 use Rattle.std.proofs.lemmas.Result.{err_from_is_err_and}
-use Rattle.load_sites.specs.Linker.{linkage}
+use Rattle.load_sites.specs.parts.Linker.{linkage}
 use Rattle.load_model.specs.Linkage.{scope_with}
-use Rattle.load_plan.specs.Linking.{IsScoped}
-use Rattle.load_plan.proofs.Joined.{is_ready, told_unlinked, first_member}
+use Rattle.load_state.specs.Accepted.{IsScoped}
+use Rattle.load_plan.proofs.WalkedModules.{is_ready, told_unlinked, first_member}
 use Rattle.load_plan.proofs.linking.link.Goals as goal
 
 pub resolve-requires-clause-ready : goal.resolve-requires-clause-ready

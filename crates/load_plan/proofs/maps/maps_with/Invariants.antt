@@ -1,4 +1,4 @@
-use Rattle.load_plan.proofs.Mapped.{IsEntered}
+use Rattle.load_plan.proofs.EnteredMaps.{IsEntered}
 use Rattle.load_plan.proofs.maps.maps_with.Given as goal
 
 abbrev pub invariant-loop-new : goal.invariant-loop-new

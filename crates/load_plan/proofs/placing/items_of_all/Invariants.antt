@@ -1,5 +1,5 @@
 use Rattle.std.proofs.Common.{◌≡◌, take}
-use Rattle.load_state.specs.Accepts.{all_items}
+use Rattle.load_state.specs.Accepted.{all_items}
 use Rattle.load_plan.proofs.placing.items_of_all.Given as goal
 
 abbrev pub invariant-loop-new : goal.invariant-loop-new

@@ -1,5 +1,5 @@
 use Rattle.std.proofs.Common.{arith}
-use Rattle.load_plan.proofs.Placed.{all_owned, all_sized, all_few}
+use Rattle.load_plan.proofs.NewItems.{all_owned, all_sized, all_few}
 use Rattle.load_plan.proofs.placing.place.Goals as goal
 
 pub plan-requires-clause-owners : goal.plan-requires-clause-owners

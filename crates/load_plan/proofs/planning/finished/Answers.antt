@@ -1,19 +1,14 @@
-use Rattle.std.proofs.Common.{List, ℕ, sym, subst, ◌∙◌, All}
+use Rattle.std.proofs.Common.{◌∙◌}
 use Rattle.std.proofs.lemmas.Result.{IfOk-weaker}
-use Rattle.fd_base.specs.declared.map.MapEntry.{MapEntry}
 use Rattle.load_model.specs.Linkage.{linkage_with}
-use Rattle.load_image.specs.Bounds.{IsMapOf}
-use Rattle.load_plan.proofs.Joined.{below_of}
-use Rattle.load_plan.proofs.Placings.{same_map_at, finished_by}
-use Rattle.load_plan.proofs.Roomed.{all_fit, values_count}
+use Rattle.load_plan.proofs.WalkedModules.{below_of}
+use Rattle.load_plan.proofs.Placings.{finished_by}
+use Rattle.load_plan.proofs.SiteRoom.{all_fit, values_count}
 use Rattle.load_plan.proofs.planning.finished.Goals as goal
 
 pub parts-requires-clause-placed : goal.parts-requires-clause-placed
 parts-requires-clause-placed c =
-    let maps = c.args.layout.now.maps in
-    let joining = c.args.linked.now.joining in
-    let mapped = subst (λ (at : ℕ → List MapEntry). All (λ j. IsMapOf j.object.segments (at j.number)) joining) (sym (same_map_at maps)) c.requires.mapped in
-    rw (c.as_slice-joining.ensures, c.new-places.ensures, c.as_slice-2.ensures) mapped
+    rw (c.as_slice-joining.ensures, c.new-places.ensures, c.as_slice-2.ensures) c.requires.mapped
 
 pub parts-requires-clause-count : goal.parts-requires-clause-count
 parts-requires-clause-count c =

@@ -1,4 +1,4 @@
-use Rattle.load_process.proofs.Beginning.{empty_valid}
+use Rattle.load_process.proofs.EmptyProcess.{empty_valid}
 use Rattle.load_process.proofs.joining.new_process.Goals as goal
 
 pub returns-clause-valid : goal.returns-clause-valid

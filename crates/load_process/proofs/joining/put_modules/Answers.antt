@@ -1,5 +1,5 @@
 use Rattle.std.proofs.Common.{◌∙◌}
-use Rattle.load_process.proofs.Putting.{next_within, rest_within, same_after}
+use Rattle.load_process.proofs.PutModules.{next_within, rest_within, same_after}
 use Rattle.load_process.proofs.joining.put_modules.Goals as goal
 
 pub put_module-requires : goal.put_module-requires

@@ -1,4 +1,4 @@
-use Rattle.load_process.proofs.Facts.{facts_of}
+use Rattle.load_process.proofs.WalkFacts.{facts_of}
 use Rattle.load_process.proofs.Validity.{first_scope}
 use Rattle.load_process.proofs.laws.empty_scope.Goals as goal
 

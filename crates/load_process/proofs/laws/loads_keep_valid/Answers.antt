@@ -1,4 +1,4 @@
-use Rattle.load_process.proofs.Facts.{facts_of}
+use Rattle.load_process.proofs.WalkFacts.{facts_of}
 use Rattle.load_process.proofs.Validity.{valid_after}
 use Rattle.load_process.proofs.laws.loads_keep_valid.Goals as goal
 

@@ -1,7 +1,7 @@
 use Rattle.load_model.specs.Joined.{global_after}
-use Rattle.load_process.specs.Load.{scope_after}
-use Rattle.load_process.proofs.Facts.{facts_of}
-use Rattle.load_process.proofs.Kept.{left}
+use Rattle.load_process.specs.parts.LoadedProcess.{scope_after}
+use Rattle.load_process.proofs.WalkFacts.{facts_of}
+use Rattle.load_process.proofs.JoinKeeps.{left}
 use Rattle.load_process.proofs.laws.loads_leave_scopes.Goals as goal
 
 pub returns : goal.returns

@@ -1,4 +1,4 @@
-use Rattle.load_process.proofs.Facts.{facts_of, free_numbers_law}
+use Rattle.load_process.proofs.WalkFacts.{facts_of, free_numbers_law}
 use Rattle.load_process.proofs.laws.numbers_are_free.Goals as goal
 
 pub returns : goal.returns

@@ -1,5 +1,5 @@
 use Rattle.std.proofs.Common.{◌≡◌, map, take}
-use Rattle.load_sites.specs.Funcs.{func_of}
+use Rattle.load_sites.specs.parts.Funcs.{func_of}
 use Rattle.load_sites.proofs.funcs.put_functions.Given as goal
 
 abbrev pub invariant-loop-key : goal.invariant-loop-key

@@ -1,4 +1,4 @@
-use Rattle.load_sites.proofs.Agreeing.{mean_the_same}
+use Rattle.load_sites.proofs.LookUpsAgree.{mean_the_same}
 use Rattle.load_sites.proofs.laws.look_ups_agree.Goals as goal
 
 pub returns : goal.returns

@@ -1,4 +1,4 @@
-use Rattle.load_sites.proofs.Agreeing.{stays_home}
+use Rattle.load_sites.proofs.LookUpsAgree.{stays_home}
 use Rattle.load_sites.proofs.laws.own_symbols_stay_home.Goals as goal
 
 pub returns : goal.returns

@@ -1,4 +1,4 @@
-use Rattle.load_sites.proofs.Leading.{code_follows}
+use Rattle.load_sites.proofs.SlotsLead.{code_follows}
 use Rattle.load_sites.proofs.laws.slots_lead_to_code.Goals as goal
 
 pub returns : goal.returns

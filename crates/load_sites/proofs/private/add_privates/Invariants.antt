@@ -1,6 +1,6 @@
 use Rattle.std.proofs.Common.{◌≡◌, ◌++◌, drop}
 use Rattle.std.specs.List.{filter_map, zip}
-use Rattle.load_sites.specs.Descriptors.{private_by, privates_by}
+use Rattle.load_sites.specs.parts.Descriptors.{private_by, privates_by}
 use Rattle.load_sites.proofs.private.add_privates.Given as goal
 
 -- with those of the sites that are left they are all

@@ -1,4 +1,4 @@
-use Rattle.load_sites.proofs.Same.{listed_more}
+use Rattle.load_sites.proofs.SameFunctions.{listed_more}
 use Rattle.load_sites.proofs.wanted.listed.Goals as goal
 
 pub loop-entry-preserved : goal.loop-entry-preserved

@@ -1,5 +1,5 @@
 use Rattle.std.proofs.Common.{◌∙◌, sym}
-use Rattle.mod_load.proofs.Entered.{entered_one, none_of}
+use Rattle.mod_load.proofs.EnteredAddresses.{entered_one, none_of}
 use Rattle.mod_load.proofs.descriptors.adopt.Goals as goal
 
 pub returns-then-is_none-clause-entered : goal.returns-then-is_none-clause-entered

@@ -1,4 +1,4 @@
-use Rattle.mod_load.proofs.Entered.{adopted_more, next_no_slot, next_unused, no_entry}
+use Rattle.mod_load.proofs.EnteredAddresses.{adopted_more, next_no_slot, next_unused, no_entry}
 use Rattle.mod_load.proofs.descriptors.adopt_all.Goals as goal
 
 pub adopt-requires-clause-unused : goal.adopt-requires-clause-unused

@@ -1,5 +1,5 @@
 use Rattle.std.proofs.Common.{take}
-use Rattle.mod_load.proofs.Entered.{AreAdopted}
+use Rattle.mod_load.proofs.EnteredAddresses.{AreAdopted}
 use Rattle.mod_load.proofs.descriptors.adopt_all.Given as goal
 
 -- the entries so far are adopted

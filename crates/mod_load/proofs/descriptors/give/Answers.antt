@@ -1,4 +1,4 @@
-use Rattle.mod_load.proofs.Entered.{gave}
+use Rattle.mod_load.proofs.EnteredAddresses.{gave}
 use Rattle.mod_load.proofs.descriptors.give.Goals as goal
 
 pub returns-clause-entered : goal.returns-clause-entered

@@ -1,4 +1,4 @@
-use Rattle.mod_load.proofs.Entered.{given_more, next_fresh, no_entry}
+use Rattle.mod_load.proofs.EnteredAddresses.{given_more, next_fresh, no_entry}
 use Rattle.mod_load.proofs.descriptors.give_all.Goals as goal
 
 pub give-requires-clause-fresh : goal.give-requires-clause-fresh

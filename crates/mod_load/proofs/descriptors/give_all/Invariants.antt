@@ -1,5 +1,5 @@
 use Rattle.std.proofs.Common.{take}
-use Rattle.mod_load.proofs.Entered.{AreGiven}
+use Rattle.mod_load.proofs.EnteredAddresses.{AreGiven}
 use Rattle.mod_load.proofs.descriptors.give_all.Given as goal
 
 -- the functions so far have their slots

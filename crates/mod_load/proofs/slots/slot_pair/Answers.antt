@@ -1,6 +1,6 @@
 use Rattle.std.proofs.Common.{ap, length, refl, sym, ◌∙◌}
 use Rattle.std.proofs.lemmas.Option.{slice_get_read}
-use Rattle.load_model.specs.Image.{placed}
+use Rattle.load_map.specs.Translation.{placed}
 use Rattle.mod_load.proofs.SlotWords.{slot_inside, slot_is}
 use Rattle.mod_load.proofs.slots.slot_pair.Goals as goal
 
@@ -11,7 +11,7 @@ pair_at-requires c =
     let lt = rw c.as_slice.ensures at c.in_ok-slot.ensures.lookup.3.0 in
     let is = rw c.as_slice.ensures at c.in_ok-slot.ensures.lookup.1 in
     slot_inside c.args.process.now c.args.maps.now c.args.guest.now c.args.m c.args.k o r c.placed-addr.result c.requires.filled (sym c.in_ok-object.ensures)
-    (slice_get_read o.jmprels (length o.jmprels) c.args.k r refl lt is) (c.placed-addr.ensures ∙ ap (λ es. placed es r.site) c.map_of.ensures)
+    (slice_get_read o.jmprels (length o.jmprels) c.args.k r refl lt is) (c.placed-addr.ensures ∙ ap (λ es. placed es r.site) c.map_at.ensures)
 
 pub returns : goal.returns
 returns c =
@@ -20,4 +20,4 @@ returns c =
     let lt = rw c.as_slice.ensures at c.in_ok-slot.ensures.lookup.3.0 in
     let is = rw c.as_slice.ensures at c.in_ok-slot.ensures.lookup.1 in
     slot_is c.args.process.now c.args.maps.now c.args.guest.now c.args.m c.args.k o r c.placed-addr.result c.requires.filled (sym c.in_ok-object.ensures)
-    (slice_get_read o.jmprels (length o.jmprels) c.args.k r refl lt is) (c.placed-addr.ensures ∙ ap (λ es. placed es r.site) c.map_of.ensures) c.pair_at.result c.pair_at.ensures
+    (slice_get_read o.jmprels (length o.jmprels) c.args.k r refl lt is) (c.placed-addr.ensures ∙ ap (λ es. placed es r.site) c.map_at.ensures) c.pair_at.result c.pair_at.ensures

@@ -1,7 +1,7 @@
 use Rattle.std.proofs.Common.{◌+◌, sym, subst}
-use Rattle.symbol_scope.specs.Slots.{Slots}
-use Rattle.mod_load.proofs.Tabling.{ok_weaker, one_added, symbols_few}
-use Rattle.mod_load.specs.Tables.{HasTablesBelow}
+use Rattle.symbol_scope.specs.parts.Slots.{Slots}
+use Rattle.mod_load.proofs.TableSteps.{ok_weaker, one_added, symbols_few}
+use Rattle.mod_load.specs.parts.Tables.{HasTablesBelow}
 use Rattle.mod_load.proofs.tables.add_live.Goals as goal
 
 pub add-requires-clause-few : goal.add-requires-clause-few

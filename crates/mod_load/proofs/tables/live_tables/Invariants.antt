@@ -1,4 +1,4 @@
-use Rattle.mod_load.specs.Tables.{HasTablesBelow}
+use Rattle.mod_load.specs.parts.Tables.{HasTablesBelow}
 use Rattle.mod_load.proofs.tables.live_tables.Given as goal
 
 -- the live modules so far have their tables

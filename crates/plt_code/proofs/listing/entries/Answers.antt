@@ -1,6 +1,6 @@
 use Rattle.std.proofs.Common.{subst, length, List, None, arith}
 use Rattle.elf_model.specs.declared.object.Segment.{Segment}
-use Rattle.plt_code.specs.Scanned.{IsNext}
+use Rattle.plt_code.specs.parts.Scanned.{IsNext}
 use Rattle.plt_code.proofs.Listed.{reads_next, jumps, parts, rises, all_listed}
 use Rattle.plt_code.proofs.listing.entries.Goals as goal
 

@@ -1,5 +1,5 @@
 use Rattle.std.proofs.Common.{◌-◌, ◌^◌}
-use Rattle.plt_code.specs.Scanned.{IsParted, ListsBelow}
+use Rattle.plt_code.specs.parts.Scanned.{IsParted, ListsBelow}
 use Rattle.plt_code.proofs.listing.entries.Given as goal
 
 abbrev pub invariant-loop-i : goal.invariant-loop-i

@@ -1,8 +1,9 @@
 use Rattle.std.proofs.Common.{◌≡◌, ◌+◌, ◌*◌, ◌-◌, ◌/◌, ◌<◌, ◌≤◌, ◌++◌, [], ◌∷◌, length, ◌∙◌, arith}
 use Rattle.std.proofs.lemmas.List.Elements.{All-push}
+use Rattle.fd_base.proofs.Lists.{all_at}
 use Rattle.elf_model.specs.Sound.{IsSized}
 use Rattle.plt_code.specs.declared.listing.Entry.{Entry}
-use Rattle.plt_code.proofs.Within.{code_of, of_each}
+use Rattle.plt_code.proofs.Within.{code_of}
 use Rattle.plt_code.proofs.Listed.{lists_skip, lists_push, lists_end, word_low, word_high}
 use Rattle.plt_code.proofs.scan.scan.Goals as goal
 use Rattle.plt_code.proofs.scan.scan.Goals.{in-Some+in_ok-push, in_default}
@@ -19,7 +20,7 @@ pub slot_called_at-requires-clause-small : goal.slot_called_at-requires-clause-s
 slot_called_at-requires-clause-small c =
     let text = c.requires.text in
     let s = c.args.text.now in
-    let size : IsSized s = of_each IsSized c.args.o.now.segments text.place s c.requires.sound.sized text.held in
+    let size : IsSized s = all_at IsSized c.args.o.now.segments text.place s c.requires.sound.sized text.held in
     let inside : 4 * c.loop-n.n + 20 ≤ (s).vaddr + length (s).filled
     = word_high (s).vaddr (length (s).filled) c.len.result c.saturating_sub-n-end.result c.loop-n.n c.len.ensures c.saturating_sub-n-end.ensures c.loop-n-test.true in
     omega (arith, inside, size.filled, size.end)
@@ -34,7 +35,7 @@ loop-n-preserved c =
       | in-Some+in_ok-push w ↦
           let entry : Entry = record { at = 4 * n; slot = w.in-Some.slot } in
           let text = c.requires.text in
-          let size : IsSized s = of_each IsSized (o).segments text.place s c.requires.sound.sized text.held in
+          let size : IsSized s = all_at IsSized (o).segments text.place s c.requires.sound.sized text.held in
           let inside : 4 * n + 20 ≤ (s).vaddr + length (s).filled
           = word_high (s).vaddr (length (s).filled) c.len.result c.saturating_sub-n-end.result n c.len.ensures c.saturating_sub-n-end.ensures c.loop-n-test.true in
           let within : 4 * n < (s).vaddr + (s).memsz = omega (arith, inside, size.filled) in

@@ -1,5 +1,5 @@
 use Rattle.std.proofs.Common.{◌+◌, ◌*◌, ◌<◌, All}
-use Rattle.plt_code.specs.Scanned.{ListsBelow}
+use Rattle.plt_code.specs.parts.Scanned.{ListsBelow}
 use Rattle.plt_code.proofs.scan.scan.Given as goal
 
 abbrev pub invariant-loop-n : goal.invariant-loop-n

@@ -1,5 +1,5 @@
-use Rattle.plt_code.specs.Table.{HasSlots}
+use Rattle.plt_code.specs.Table.{HasOffsets}
 use Rattle.plt_code.proofs.table.slot_table.Given as goal
 
 abbrev pub invariant-loop-k : goal.invariant-loop-k
-invariant-loop-k l = HasSlots l.got l.slots l.k l.table
+invariant-loop-k l = HasOffsets l.got l.slots l.k l.table

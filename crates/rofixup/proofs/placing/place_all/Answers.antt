@@ -1,7 +1,7 @@
 use Rattle.std.proofs.Common.{◌≡◌, ◌∙◌, ◌<◌, ap, set, length, unwrap_or, get_or, arith}
 use Rattle.std.proofs.lemmas.Grind.{common_steps}
 use Rattle.std.proofs.lemmas.List.Edits.{map_over_more}
-use Rattle.fd_base.specs.LoadMap.{address_of}
+use Rattle.load_map.specs.Translation.{address_of}
 use Rattle.rofixup.proofs.placing.place_all.Goals as goal
 
 pub loop-value-preserved : goal.loop-value-preserved

@@ -1,5 +1,5 @@
 use Rattle.std.proofs.Common.{◌≡◌, ◌++◌, map, take, drop, unwrap_or}
-use Rattle.fd_base.specs.LoadMap.{address_of}
+use Rattle.load_map.specs.Translation.{address_of}
 use Rattle.rofixup.proofs.placing.place_all.Given as goal
 
 abbrev pub invariant-loop-value : goal.invariant-loop-value

@@ -1,4 +1,4 @@
-use Rattle.run_laws.proofs.Ending.{every_run_ends}
+use Rattle.run_laws.proofs.CoursesEnd.{every_run_ends}
 use Rattle.run_laws.proofs.laws.runs_end.Goals as goal
 
 pub returns : goal.returns

@@ -6,5 +6,5 @@ use Rattle.run_turn.proofs.calls.put_arrivals.Given as goal
 
 abbrev pub invariant-loop-call : goal.invariant-loop-call
 invariant-loop-call l =
-    l.events ++ flat_map (λ call. arrival l.step l.thread l.place) (filter is_complete (map advanced (drop l.call-index l.calls)))
-    ≡ l.fn.events ++ flat_map (λ call. arrival l.step l.thread l.place) (filter is_complete (map advanced l.calls))
+    l.events ++ flat_map (λ call. arrival l.done.step l.done.thread l.place) (filter is_complete (map advanced (drop l.call-index l.calls)))
+    ≡ l.fn.events ++ flat_map (λ call. arrival l.done.step l.done.thread l.place) (filter is_complete (map advanced l.calls))

@@ -1,4 +1,4 @@
-use Rattle.run_turn.proofs.Stopping.{stops_keep}
+use Rattle.run_turn.proofs.StopsKeep.{stops_keep}
 use Rattle.run_turn.proofs.laws.stops_keep.Goals as goal
 
 pub returns : goal.returns

@@ -1,6 +1,6 @@
 use Rattle.std.proofs.Common.{◌∙◌, None}
 use Rattle.std.proofs.lemmas.List.{length-set}
-use Rattle.run_turn.proofs.Ending.{emptied_more, emptied_all, emptied_in_progress}
+use Rattle.run_turn.proofs.EmptiedPlaces.{emptied_more, emptied_in_progress}
 use Rattle.run_turn.proofs.settling.end_all.Goals as goal
 
 pub loop-i-preserved : goal.loop-i-preserved

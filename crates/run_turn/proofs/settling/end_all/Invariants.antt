@@ -1,5 +1,5 @@
 use Rattle.std.proofs.Common.{◌≡◌, length}
-use Rattle.run_turn.proofs.Ending.{emptied}
+use Rattle.run_turn.proofs.EmptiedPlaces.{emptied}
 use Rattle.run_turn.proofs.settling.end_all.Given as goal
 
 abbrev pub invariant-loop-i : goal.invariant-loop-i

@@ -2,8 +2,8 @@ use Rattle.std.proofs.Common.{◌≡◌, take}
 use Rattle.std.specs.Prelude.{nat_eq}
 use Rattle.std.specs.List.{filter_map}
 use Rattle.symbol_scope.specs.Closure.{with_new}
-use Rattle.symbol_scope.specs.Needs.{number_named}
-use Rattle.symbol_scope.specs.Marks.{IsMarked}
+use Rattle.symbol_scope.specs.parts.Needs.{number_named}
+use Rattle.symbol_scope.specs.parts.Marks.{IsMarked}
 use Rattle.symbol_scope.proofs.closing.add_named.Given as goal
 
 -- the modules of the names so far are there

@@ -1,7 +1,7 @@
-use Rattle.std.proofs.Common.{◌≡◌, ◌∙◌, ◌≤◌, ◌<◌, ◌∷◌, [], arith, length}
+use Rattle.std.proofs.Common.{◌≡◌, ◌≤◌, ◌<◌, ◌∷◌, [], arith, length}
 use Rattle.std.specs.Prelude.{nat_eq}
 use Rattle.symbol_scope.specs.Closure.{with_new}
-use Rattle.symbol_scope.specs.Needs.{needs}
+use Rattle.symbol_scope.specs.parts.Needs.{needs}
 use Rattle.symbol_scope.proofs.Marking.{order_more, reached_more, length_more, first_reached, closed}
 use Rattle.symbol_scope.proofs.closing.closure_of.Goals as goal
 

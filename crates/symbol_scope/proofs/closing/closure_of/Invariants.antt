@@ -2,8 +2,8 @@ use Rattle.std.proofs.Common.{◌≡◌, ◌≤◌, ◌-◌, [], ◌∷◌, ◌+
 use Rattle.std.specs.Prelude.{nat_eq}
 use Rattle.std.specs.List.{flat_map}
 use Rattle.symbol_scope.specs.Closure.{firsts, IsReached}
-use Rattle.symbol_scope.specs.Needs.{needs}
-use Rattle.symbol_scope.specs.Marks.{IsMarked}
+use Rattle.symbol_scope.specs.parts.Needs.{needs}
+use Rattle.symbol_scope.specs.parts.Marks.{IsMarked}
 use Rattle.symbol_scope.proofs.closing.closure_of.Given as goal
 
 -- what the first modules need is there, and nothing that isn't reached

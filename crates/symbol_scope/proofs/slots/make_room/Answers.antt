@@ -1,5 +1,5 @@
 use Rattle.std.proofs.Common.{ap, ◌∙◌, ◌<◌, arith, length, length-append}
-use Rattle.symbol_scope.specs.Slots.{filled_up}
+use Rattle.symbol_scope.specs.parts.Slots.{filled_up}
 use Rattle.symbol_scope.proofs.Filling.{filled_up_push}
 use Rattle.symbol_scope.proofs.slots.make_room.Goals as goal
 

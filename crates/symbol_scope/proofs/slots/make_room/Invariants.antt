@@ -1,5 +1,5 @@
 use Rattle.std.proofs.Common.{◌≡◌, ◌≤◌, ◌-◌, length}
-use Rattle.symbol_scope.specs.Slots.{filled_up}
+use Rattle.symbol_scope.specs.parts.Slots.{filled_up}
 use Rattle.symbol_scope.proofs.slots.make_room.Given as goal
 
 abbrev pub invariant-loop-slots : goal.invariant-loop-slots

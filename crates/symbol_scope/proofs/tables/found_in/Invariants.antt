@@ -1,6 +1,6 @@
 use Rattle.std.proofs.Common.{◌≡◌, drop}
 use Rattle.symbol_scope.specs.Definition.{first_definition}
-use Rattle.symbol_scope.specs.Needs.{export_in}
+use Rattle.symbol_scope.specs.parts.Needs.{export_in}
 use Rattle.symbol_scope.proofs.tables.found_in.Given as goal
 
 -- no module so far decides

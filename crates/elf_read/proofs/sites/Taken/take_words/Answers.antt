@@ -1,6 +1,6 @@
 use Rattle.std.proofs.Common.{◌∙◌, arith}
 use Rattle.std.proofs.lemmas.Bool.Decides.{nat_tests}
-use Rattle.elf_read.specs.Taken.{covers}
+use Rattle.elf_read.specs.parts.Taken.{covers}
 use Rattle.elf_read.proofs.Meeting.{takes_more}
 use Rattle.elf_read.proofs.sites.Taken.take_words.Goals as goal
 

@@ -1,7 +1,7 @@
 use Rattle.std.proofs.Common.{◌≡◌, ℕ, ◌*◌, ◌||◌}
 use Rattle.std.specs.BTreeSet as set
 use Rattle.std.specs.Ordering.{nat_cmp}
-use Rattle.elf_read.specs.Taken.{covers}
+use Rattle.elf_read.specs.parts.Taken.{covers}
 use Rattle.elf_read.proofs.sites.Taken.take_words.Given as goal
 
 abbrev pub invariant-loop-k : goal.invariant-loop-k

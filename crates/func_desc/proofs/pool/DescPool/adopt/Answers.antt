@@ -1,9 +1,8 @@
-use Rattle.std.proofs.Common.{◌≡◌, ◌≢◌, ℕ, ◌-◌, ◌<◌, None, Some, ap, sym, ◌∙◌, subst, length, vec_len, vec_capacity}
+use Rattle.std.proofs.Common.{◌≡◌, ◌≢◌, ℕ, ◌-◌, ◌<◌, None, ap, sym, ◌∙◌, subst, length, vec_len, vec_capacity}
 use Rattle.std.specs.FinMap.{get, insert}
-use Rattle.elf_model.specs.declared.func.Func.{Func}
 use Rattle.func_desc.specs.Functions.{AddrMap}
-use Rattle.func_desc.specs.Pool.{Pool, IsSlot, slot_addr, free_slots}
-use Rattle.func_desc.specs.Inside.{addrs_of, IsKept}
+use Rattle.func_desc.specs.Pool.{Pool, slot_addr, free_slots}
+use Rattle.func_desc.specs.parts.Inside.{addrs_of}
 use Rattle.func_desc.proofs.Slotting.{kept-push, addrs_of-push}
 use Rattle.func_desc.proofs.Freeing.{free_slots_lem}
 use Rattle.func_desc.proofs.pool.DescPool.adopt.Goals as goal

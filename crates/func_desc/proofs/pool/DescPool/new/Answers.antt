@@ -1,6 +1,6 @@
 use Rattle.std.proofs.Common.{◌≡◌, ℕ, ◌-◌, [], ap, ◌∙◌, arith, length, vec_len, vec_capacity}
 use Rattle.std.specs.FinMap.{from_entries}
-use Rattle.func_desc.specs.Inside.{addrs_of}
+use Rattle.func_desc.specs.parts.Inside.{addrs_of}
 use Rattle.std.proofs.lemmas.List.{length-replicate}
 use Rattle.func_desc.specs.Pool.{Pool}
 use Rattle.func_desc.specs.Functions.{AddrMap}

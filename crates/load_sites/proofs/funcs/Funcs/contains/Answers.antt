@@ -1,7 +1,7 @@
 use Rattle.std.proofs.Common.{ap, ◌∙◌}
 use Rattle.symbol_scope.specs.Closure.{has}
 use Rattle.load_model.specs.Descriptors.{is_same_func}
-use Rattle.load_sites.proofs.Same.{has_key}
+use Rattle.load_sites.proofs.SameFunctions.{has_key}
 use Rattle.load_sites.proofs.funcs.Funcs.contains.Goals as goal
 
 pub returns : goal.returns

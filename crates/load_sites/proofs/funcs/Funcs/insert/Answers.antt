@@ -1,8 +1,8 @@
 use Rattle.std.proofs.Common.{map, ap, ◌∙◌}
 use Rattle.symbol_scope.specs.Closure.{with_one}
 use Rattle.load_model.specs.Descriptors.{is_same_func}
-use Rattle.load_sites.specs.Funcs.{func_of}
-use Rattle.load_sites.proofs.Same.{entered}
+use Rattle.load_sites.specs.parts.Funcs.{func_of}
+use Rattle.load_sites.proofs.SameFunctions.{entered}
 use Rattle.load_sites.proofs.funcs.Funcs.insert.Goals as goal
 
 pub returns : goal.returns

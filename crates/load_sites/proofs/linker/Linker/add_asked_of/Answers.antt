@@ -1,8 +1,8 @@
 use Rattle.std.proofs.Common.{◌≡◌, ◌++◌, OnOk, List, subst}
 use Rattle.load_model.specs.declared.meaning.SiteValue.{SiteValue}
-use Rattle.load_sites.specs.Descriptors.{all_asked_by}
-use Rattle.load_sites.specs.Linker.{linkage}
-use Rattle.load_sites.proofs.Described.{enough_values, asked_same}
+use Rattle.load_sites.specs.parts.Descriptors.{all_asked_by}
+use Rattle.load_sites.specs.parts.Linker.{linkage}
+use Rattle.load_sites.proofs.DescriptorValues.{enough_values, asked_same}
 use Rattle.load_sites.proofs.linker.Linker.add_asked_of.Goals as goal
 
 pub add_asked_in-requires : goal.add_asked_in-requires

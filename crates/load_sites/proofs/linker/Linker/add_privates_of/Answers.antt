@@ -1,8 +1,8 @@
 use Rattle.std.proofs.Common.{◌≡◌, ◌++◌, OnOk, List, subst}
 use Rattle.load_model.specs.declared.meaning.SiteValue.{SiteValue}
-use Rattle.load_sites.specs.Descriptors.{privates_by}
-use Rattle.load_sites.specs.Linker.{linkage}
-use Rattle.load_sites.proofs.Described.{enough_values, privates_same}
+use Rattle.load_sites.specs.parts.Descriptors.{privates_by}
+use Rattle.load_sites.specs.parts.Linker.{linkage}
+use Rattle.load_sites.proofs.DescriptorValues.{enough_values, privates_same}
 use Rattle.load_sites.proofs.linker.Linker.add_privates_of.Goals as goal
 
 pub add_privates-requires : goal.add_privates-requires

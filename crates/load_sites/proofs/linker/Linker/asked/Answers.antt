@@ -1,6 +1,6 @@
 use Rattle.std.proofs.Common.{arith}
-use Rattle.load_sites.specs.Linker.{linkage}
-use Rattle.load_sites.proofs.Described.{module_values, module_count}
+use Rattle.load_sites.specs.parts.Linker.{linkage}
+use Rattle.load_sites.proofs.DescriptorValues.{module_values, module_count}
 use Rattle.load_sites.proofs.linker.Linker.asked.Goals as goal
 
 pub bounds-values-i : goal.bounds-values-i

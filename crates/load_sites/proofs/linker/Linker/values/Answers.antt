@@ -1,6 +1,6 @@
 use Rattle.std.proofs.Common.{rules}
-use Rattle.load_sites.specs.Linker.{linkage}
-use Rattle.load_sites.proofs.Valued.{one_module_more, no_refusals_more, first_module_told}
+use Rattle.load_sites.specs.parts.Linker.{linkage}
+use Rattle.load_sites.proofs.SiteValues.{one_module_more, no_refusals_more, first_module_told}
 use Rattle.load_sites.proofs.linker.Linker.values.Goals as goal
 
 pub returns-in_err-values-clause-error : goal.returns-in_err-values-clause-error

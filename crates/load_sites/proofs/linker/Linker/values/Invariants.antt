@@ -2,8 +2,8 @@ use Rattle.std.proofs.Common.{◌≡◌, take, drop}
 use Rattle.std.specs.List.{flat_map}
 use Rattle.load_model.specs.Linkage.{members_of}
 use Rattle.load_model.specs.Sites.{refusals_of}
-use Rattle.load_sites.specs.Linker.{linkage}
-use Rattle.load_sites.specs.Values.{IsValues}
+use Rattle.load_sites.specs.parts.Linker.{linkage}
+use Rattle.load_sites.specs.parts.Values.{IsValues}
 use Rattle.load_sites.proofs.linker.Linker.values.Given as goal
 
 -- the modules so far have these values, and no refusal

@@ -2,7 +2,7 @@ use Rattle.std.proofs.Common.{◌≡◌, Ok, map, take, drop}
 use Rattle.std.specs.List.{filter_map}
 use Rattle.std.specs.Result.{result_err}
 use Rattle.load_model.specs.Sites.{site_value}
-use Rattle.load_sites.specs.Linker.{linkage}
+use Rattle.load_sites.specs.parts.Linker.{linkage}
 use Rattle.load_sites.proofs.linker.Linker.values_at.Given as goal
 
 -- the sites so far have these values, and no refusal

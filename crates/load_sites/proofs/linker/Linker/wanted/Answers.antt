@@ -5,8 +5,8 @@ use Rattle.elf_model.specs.declared.func.Func.{Func}
 use Rattle.symbol_scope.specs.Closure.{has, firsts}
 use Rattle.load_model.specs.Descriptors.{is_same_func, is_listed, privates, asked_of}
 use Rattle.load_model.specs.Linkage.{members_of}
-use Rattle.load_sites.specs.Linker.{linkage}
-use Rattle.load_sites.proofs.Described.{same_wanted}
+use Rattle.load_sites.specs.parts.Linker.{linkage}
+use Rattle.load_sites.proofs.DescriptorValues.{same_wanted}
 use Rattle.load_sites.proofs.linker.Linker.wanted.Goals as goal
 
 pub returns : goal.returns

@@ -1,15 +1,8 @@
-use Rattle.std.proofs.Common.{ℕ, ◌^◌, ◌<◌, List, sym, subst, All}
-use Rattle.fd_base.specs.declared.map.MapEntry.{MapEntry}
-use Rattle.load_image.specs.Bounds.{EndsBelow}
-use Rattle.load_state.specs.Consistent.{IsConsistent}
-use Rattle.load_state.specs.Loaded.{Loaded, State}
-use Rattle.keep_places.proofs.Ends.{maps_end_lem}
+use Rattle.std.proofs.Common.{List, sym, subst, All}
+use Rattle.load_map.specs.declared.entry.MapEntry.{MapEntry}
+use Rattle.load_map.specs.parts.IsLoadMap.{EndsBelow}
+use Rattle.mod_load.proofs.LoaderParts.{ends_of}
 use Rattle.mod_load.proofs.loader.Loader.got.Goals as goal
 
 pub got_at-requires : goal.got_at-requires
-got_at-requires c =
-    let i = c.self.inside in
-    let l : Loaded = record { plan = i.plan; process = i.process; maps = i.maps; held = i.ranges.held; addrs = i.pool.addrs; memory = i.guest } in
-    let consistent : IsConsistent l = subst (λ (s : State). IsConsistent s.loaded) (sym c.self.view_is) c.requires in
-    subst (λ (maps : List (List MapEntry)). All (All EndsBelow) maps) (sym c.as_slice.ensures)
-    (maps_end_lem.old l consistent.modules' (subst (λ (n : ℕ). n < 2 ^ 32) consistent.laid_out.size c.whole.ensures.whole.size))
+got_at-requires c = subst (λ (maps : List (List MapEntry)). All (All EndsBelow) maps) (sym c.as_slice.ensures) (ends_of c.self.view_is c.requires c.whole.ensures.whole.size)

@@ -1,5 +1,5 @@
 use Rattle.std.proofs.Common.{ap, ◌∙◌, ◌<◌, arith, length, set, Some}
-use Rattle.symbol_scope.specs.Slots.{filled_up}
+use Rattle.symbol_scope.specs.parts.Slots.{filled_up}
 use Rattle.symbol_scope.proofs.Filling.{filled_up-set}
 use Rattle.symbol_scope.proofs.tables.Tables.add.Goals as goal
 

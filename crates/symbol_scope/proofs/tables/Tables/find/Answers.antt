@@ -1,6 +1,5 @@
-use Rattle.std.proofs.Common.{◌≡◌, ap, ◌∙◌}
+use Rattle.std.proofs.Common.{ap, ◌∙◌}
 use Rattle.symbol_scope.specs.Definition.{first_definition}
-use Rattle.symbol_scope.specs.Needs.{export_in}
 use Rattle.symbol_scope.proofs.Finding.{export_in-behind, none_exactly}
 use Rattle.symbol_scope.proofs.tables.Tables.find.Goals as goal
 

@@ -1,5 +1,5 @@
 use Rattle.std.proofs.Common.{ap, sym, ◌∙◌, ◌<◌, ◌≤◌, arith, length, set, None}
-use Rattle.symbol_scope.specs.Slots.{filled_up}
+use Rattle.symbol_scope.specs.parts.Slots.{filled_up}
 use Rattle.symbol_scope.proofs.Filling.{filled_up-set, filled_up-past}
 use Rattle.symbol_scope.proofs.tables.Tables.remove.Goals as goal
 

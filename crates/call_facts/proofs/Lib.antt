@@ -1,9 +1,0 @@
-pub mod Aligned
-pub mod Reading
-pub mod Placed
-pub mod Leading
-pub mod Entered
-pub mod Slotted
-pub mod Held
-pub mod Arriving
-pub mod Naming

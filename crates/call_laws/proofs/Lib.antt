@@ -1,0 +1,17 @@
+pub mod Alignment
+pub mod Arrivals
+pub mod BegunCalls
+pub mod CallWalks
+pub mod ClearEntries
+pub mod CodePlaces
+pub mod CourseTurns
+pub mod EntrySteps
+pub mod EntryWords
+pub mod GotsName
+pub mod ListMembers
+pub mod PlacedCode
+pub mod ReadWords
+pub mod SlotCode
+pub mod SlotPairs
+pub mod SlotsLead
+pub mod TurnStages

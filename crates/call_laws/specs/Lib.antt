@@ -1,0 +1,4 @@
+pub mod BegunCalls
+pub mod Calls
+pub mod Schedules
+pub mod parts

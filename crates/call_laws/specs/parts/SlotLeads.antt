@@ -1,0 +1,26 @@
+-- Where the slots of a consistent loader's modules lead.
+use Rattle.std.specs.Prelude.{◌≡◌, ℕ, Some, None}
+use Rattle.elf_model.specs.declared.func.Func.{Func}
+use Rattle.elf_model.specs.declared.object.Object.{Object}
+use Rattle.elf_model.specs.declared.object.Rel.{Rel}
+use Rattle.elf_model.specs.Places.{slot_of}
+use Rattle.load_model.specs.declared.words.SlotPair.{SlotPair}
+use Rattle.load_model.specs.Linkage.{linkage_of}
+use Rattle.load_model.specs.Process.{object_at}
+use Rattle.load_state.specs.Consistent.{IsConsistent}
+use Rattle.load_state.specs.Loaded.{Loaded}
+use Rattle.load_state.specs.Slots.{slot_function, slot_pair_of}
+use Rattle.run_model.specs.Places.{code_at}
+
+-- slot k of live module m, and its pair
+pub record IsSlotOf (l : Loaded) (m k : ℕ) (o : Object) (r : Rel) (slot : SlotPair) : Type 0 where
+  pub live : object_at l.process m ≡ Some o
+  pub is_slot : slot_of o k ≡ Some r
+  pub pair : slot_pair_of l.process l.maps m k ≡ Some slot
+
+-- The code at the first word of a slot is the function to which the slot leads. Where it leads to none, no code is there.
+pub record SlotsLeadToPlacedCode : Type 0 where
+  pub function : (l : Loaded) (m k : ℕ) (o : Object) (r : Rel) (slot : SlotPair) (f : Func) → IsConsistent l → IsSlotOf l m k o r slot
+      → slot_function (linkage_of l.process) m o r ≡ Some f → code_at l.process l.maps slot.code ≡ Some f
+  pub nothing : (l : Loaded) (m k : ℕ) (o : Object) (r : Rel) (slot : SlotPair) → IsConsistent l → IsSlotOf l m k o r slot
+      → slot_function (linkage_of l.process) m o r ≡ None → code_at l.process l.maps slot.code ≡ None

@@ -1,9 +1,0 @@
-use Rattle.std.proofs.Common.{◌+◌, ◌≤◌, length, ap, arith}
-use Rattle.guest_mem.specs.Memory.{Memory}
-use Rattle.guest_mem.proofs.Inside.{mapped_inside}
-use Rattle.guest_mem.proofs.guest.Guest.check_read.Goals as goal
-
-pub returns-in-None-clause-inside : goal.returns-in-None-clause-inside
-returns-in-None-clause-inside c =
-    let within : c.args.addr + c.args.count ≤ length c.deref.result.now = mapped_inside c.deref.result.now c.args.addr c.args.count (cc) c.requires.some in
-    omega (arith, ap length c.deref.ensures.value, ap (λ (m : Memory). length m.bytes) c.self.view_is)

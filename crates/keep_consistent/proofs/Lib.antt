@@ -1,4 +1,0 @@
-pub mod Numbers
-pub mod Extended
-pub mod Slots
-pub mod Kept

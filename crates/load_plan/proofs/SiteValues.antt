@@ -1,0 +1,14 @@
+-- The values of each new module's sites.
+use Rattle.std.proofs.Common.{ℕ, zero, suc, ◌<◌, List, [], ◌∷◌, length, get_or, arith}
+use Rattle.load_model.specs.declared.meaning.SiteValue.{SiteValue}
+use Rattle.load_model.specs.declared.module.Joining.{Joining}
+use Rattle.load_model.specs.Definition.{Linkage}
+use Rattle.load_sites.specs.parts.Values.{IsValues}
+use Rattle.load_image.specs.parts.Words.{HasValues}
+
+pub values_at : (l : Linkage) (joining : List Joining) (values : List (List SiteValue)) (i : ℕ) (j : Joining) (v : List SiteValue)
+    → IsValues l joining values → i < length joining → HasValues l (get_or joining i j).number (get_or joining i j).object (get_or values i v)
+values_at l [] values i j v all lt = absurd (omega arith)
+values_at l (x ∷ xs) [] i j v all lt = absurd all
+values_at l (x ∷ xs) (y ∷ ys) zero j v all lt = all.0
+values_at l (x ∷ xs) (y ∷ ys) (suc i) j v all lt = values_at l xs ys i j v all.1 (omega arith)

@@ -1,0 +1,6 @@
+use Rattle.load_plan.proofs.TableSteps.{IsDropped}
+use Rattle.load_plan.proofs.tables.drop_others.Given as goal
+
+-- those below were looked at
+abbrev pub invariant-loop-m : goal.invariant-loop-m
+invariant-loop-m l = IsDropped l.process l.m l.tables

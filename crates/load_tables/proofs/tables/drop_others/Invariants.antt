@@ -1,6 +1,0 @@
-use Rattle.load_tables.proofs.Tabled.{IsDropped}
-use Rattle.load_tables.proofs.tables.drop_others.Given as goal
-
--- those below were looked at
-abbrev pub invariant-loop-m : goal.invariant-loop-m
-invariant-loop-m l = IsDropped l.process l.m l.tables

@@ -1,8 +1,0 @@
-use Rattle.std.proofs.Common.{◌≡◌, take}
-use Rattle.std.specs.Str.{bytes_eq}
-use Rattle.symbol_scope.specs.Closure.{with_new}
-use Rattle.load_walk.proofs.found.add_new.Given as goal
-
--- the names so far are there
-abbrev pub invariant-loop-name : goal.invariant-loop-name
-invariant-loop-name l = l.names.items ≡ with_new bytes_eq l.fn.names.items (take l.name-index l.more)

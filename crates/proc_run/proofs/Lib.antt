@@ -1,0 +1,8 @@
+pub mod FirstLive
+mod LivePlaces
+pub mod StartRefusals
+pub mod RunEnds
+pub mod RunParts
+pub mod SettledTurns
+pub mod TurnEnds
+pub mod TurnLines

@@ -1,0 +1,19 @@
+use Rattle.std.proofs.Common.{◌≡◌, ◌-◌, ◌≤◌, Some, true}
+use Rattle.run_model.specs.Courses.{freely}
+use Rattle.run_model.specs.State.{lives}
+use Rattle.proc_run.specs.RunParts.{IsLeft}
+use Rattle.proc_run.specs.parts.ReadyProcess.{IsReady}
+use Rattle.proc_run.proofs.process.Process.run_freely.Given as goal
+
+-- some steps are done, and those that are left complete the course
+abbrev pub invariant-loop : goal.invariant-loop
+invariant-loop g l = record {
+  part : IsLeft
+      (freely l.fn.self.limit l.fn.self.limit (Some l.fn.first) l.fn.self.state)
+      (freely l.fn.self.limit (l.fn.self.limit - l.counter) (Some l.thread) l.self.state)
+      (g.O.Sink.bytes l.fn.out) (g.O.Sink.bytes l.out);
+  ready : IsReady l.fn.self.limit l.self;
+  live : lives l.self.state.threads l.thread ≡ true;
+  steps : l.counter ≤ l.self.state.steps;
+  count : g.O.Sink.faults l.fn.out ≤ g.O.Sink.faults l.out;
+}

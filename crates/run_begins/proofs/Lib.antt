@@ -1,3 +1,0 @@
-pub mod Coded
-pub mod Begun
-pub mod Leads

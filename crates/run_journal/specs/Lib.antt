@@ -1,4 +1,0 @@
-pub mod Moments
-pub mod Arrivals
-pub mod Journal
-pub mod Laws

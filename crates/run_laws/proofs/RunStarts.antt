@@ -1,0 +1,114 @@
+-- The beginning of a run: what is loaded is consistent, and thread 0 stands at the entry point.
+use Rattle.std.proofs.Common.{◌≡◌, ℕ, zero, suc, ◌≤◌, Bool, true, false, cond, List, [], ◌∷◌, Option, Some, None, length, replicate, refl, subst, ◌∙◌, arith, inl, inr}
+use Rattle.std.specs.Prelude.{All, IsSomeAnd, map}
+use Rattle.std.specs.FinMap.{get}
+use Rattle.std.specs.Option.{option_to_list}
+use Rattle.std.proofs.lemmas.List.Elements.{All-append, All-cons, All-map, All-nil, All-weaker}
+use Rattle.fd_base.specs.Fetched.{Files}
+use Rattle.fd_base.specs.declared.store.TheConstants.{MAX_FILE}
+use Rattle.elf_model.specs.declared.object.Object.{Object}
+use Rattle.elf_model.specs.Object.{IsObject}
+use Rattle.elf_model.proofs.Soundness as soundness
+use Rattle.load_laws.proofs.ConsistentAfter.{loads_keep_lem}
+use Rattle.load_model.specs.declared.module.Joining.{Joining}
+use Rattle.load_model.specs.declared.module.Live.{Live}
+use Rattle.load_model.specs.declared.plan.MemPlan.{MemPlan}
+use Rattle.load_model.specs.declared.plan.TheConstants.{THREADS}
+use Rattle.load_model.specs.Walk.{FileIs}
+use Rattle.load_state.specs.Consistent.{IsConsistent}
+use Rattle.load_state.specs.Loaded.{Loaded}
+use Rattle.load_process.specs.parts.TakenObjects.{IsTaken}
+use Rattle.load_process.proofs.FewSymbols.{taken}
+use Rattle.run_model.specs.declared.event.Event.{Event}
+use Rattle.run_model.specs.declared.event.Event.TheVariants as event
+use Rattle.run_model.specs.declared.thread.Call.{Call}
+use Rattle.run_model.specs.declared.thread.Thread.{Thread}
+use Rattle.run_model.specs.Places.{call_begun}
+use Rattle.run_model.specs.Start.{first_events, load_events, load_events_from, load_events_of, state_with}
+use Rattle.elf_model.specs.Inits.{has_inits}
+use Rattle.run_model.specs.State.{State, thread_at}
+use Rattle.run_model.specs.Turns.{entering}
+use Rattle.proc_run.specs.BegunProcess.{thread_at_entry}
+use Rattle.load_state.specs.ProgramLoad.{IsProgramLoaded}
+use Rattle.run_laws.specs.Moments.{IsEntered}
+use Rattle.run_laws.proofs.EnterLines.{Told, contains_option, new_begins}
+use Rattle.run_laws.proofs.Moments.{IsOwn, IsSettled, StandsAtMoment, each_option, lives_after_set}
+
+-- ---- what is loaded
+
+-- an object that is read from a file is one that can be placed
+file_taken : (told : Files) (name : List ℕ) (o : Object) → FileIs (Some told) name o → IsTaken o
+file_taken told name o h = by (get told name) h
+  where
+    by : (x : Option (List ℕ)) → IsSomeAnd x (λ bytes. (length bytes ≤ MAX_FILE) × IsObject bytes o) → IsTaken o
+    by None h = absurd h
+    by (Some bytes) h = taken bytes o h.1 (soundness.accepted_is_sound bytes o h.1)
+
+pub loaded_consistent : (plan : MemPlan) (told : Files) (name : List ℕ) (l : Loaded) → IsProgramLoaded plan told name l → IsConsistent l
+loaded_consistent plan told name l h =
+    let files : All (λ (j : Joining). FileIs (Some told) j.name j.object) h.group.joining = h.planned.scoped.walk.walked.files' in
+    loads_keep_lem h.start l (Some told) name false h.group h.fresh.consistent h.planned
+    (All-weaker (λ (j : Joining). FileIs (Some told) j.name j.object) (λ (j : Joining). IsTaken j.object) (λ j. file_taken told j.name j.object) h.group.joining files) h.committed
+
+pub loaded_plan : (plan : MemPlan) (told : Files) (name : List ℕ) (l : Loaded) → IsProgramLoaded plan told name l → l.plan ≡ plan
+loaded_plan plan told name l h = h.committed.plan' ∙ h.fresh.starts.plan'
+
+-- ---- thread 0
+
+nobody : (n u : ℕ) (thread : Thread) → thread_at (replicate n None) u ≡ Some thread → ⊥
+nobody zero u thread at = absurd cc
+nobody (suc n) zero thread at = absurd cc
+nobody (suc n) (suc u) thread at = nobody n u thread at
+
+module _ (l : Loaded) (entry limit : ℕ) where
+  abbrev first : Thread
+  first = thread_at_entry l entry
+
+  abbrev begin : State
+  begin = state_with l first
+
+  first-settled : IsSettled l limit first
+  first-settled = record {
+    registers = refl;
+    calls' = each_option (IsOwn l limit first.cpu) (call_begun l.process l.maps first.cpu) (λ call is new. is);
+  }
+
+  pub begin-stays : IsConsistent l → StandsAtMoment l limit begin
+  begin-stays consistent = record {
+    loaded' = record { consistent = consistent; plan' = refl; process' = refl; maps' = refl };
+    within = omega arith;
+    threads' = λ u thread at. elim (lives_after_set (replicate THREADS None) 0 u (Some first) thread at) as (λ _. IsSettled l limit thread) [
+      | inl is ↦ let same : first ≡ thread = cc in subst (IsSettled l limit) same first-settled
+      | inr was ↦ absurd (nobody THREADS u thread was)
+    ];
+  }
+
+  -- ---- the events before the first step
+
+  loads-told : (P : ℕ → ℕ → ℕ → ℕ → Type 0) (m : ℕ) (places : List (Option Live)) → All (Told P) (load_events_from m places)
+  loads-told P m [] = All-nil (Told P)
+  loads-told P m (None ∷ places) = loads-told P (suc m) places
+  loads-told P m (Some live ∷ places) =
+      All-append (Told P) (load_events_of m live) (load_events_from (suc m) places) (one (has_inits live.object.inits)) (loads-told P (suc m) places)
+    where
+      one : (b : Bool) → All (Told P) (event.Load m live.name ∷ cond b (event.Skipped m ∷ []) [])
+      one true = All-cons (Told P) (event.Load m live.name) (event.Skipped m ∷ []) tt (All-cons (Told P) (event.Skipped m) [] tt (All-nil (Told P)))
+      one false = All-cons (Told P) (event.Load m live.name) [] tt (All-nil (Told P))
+
+  pub first-told : (turns : List ℕ) → All (Told (IsEntered limit begin turns)) (first_events l first)
+  first-told turns =
+      let P : Event → Type 0 = Told (IsEntered limit begin turns) in
+      let o : Option Call = call_begun l.process l.maps first.cpu in
+      All-append P (load_events l.process) (map (entering 0 0) first.calls) (loads-told (IsEntered limit begin turns) 0 l.process.modules)
+      (All-map P (entering 0 0) (option_to_list o)
+      (each_option (λ (call : Call). IsEntered limit begin turns 0 0 call.number call.slot) o (λ call is. record {
+        s = begin;
+        coming = turns;
+        moment = record { done = []; turns' = refl; state' = refl };
+        steps' = refl;
+        thread = first;
+        call = call;
+        enters = record { lives = refl; among = contains_option o call is; is_new = new_begins l first call is };
+        number' = refl;
+        slot' = refl;
+      })))

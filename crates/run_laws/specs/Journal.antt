@@ -1,0 +1,62 @@
+-- The journal of a run: what holds of its lines and of its calls.
+use Rattle.std.specs.Prelude.{◌≡◌, ℕ, ◌<◌, ◌≤◌, List, [], ◌∷◌, ◌++◌, Some, Contains, IfSome}
+use Rattle.elf_model.specs.declared.func.Func.{Func}
+use Rattle.load_state.specs.Consistent.{IsConsistent}
+use Rattle.load_state.specs.Loaded.{Loaded}
+use Rattle.fd_base.specs.Fetched.{Files}
+use Rattle.run_model.specs.declared.event.Event.{Event}
+use Rattle.run_model.specs.declared.event.Event.TheVariants.{Enter}
+use Rattle.run_model.specs.declared.job.Job.{Job}
+use Rattle.run_model.specs.declared.thread.Call.{Call}
+use Rattle.run_model.specs.declared.thread.Thread.{Thread}
+use Rattle.run_model.specs.declared.thread.Turned.TheVariants.{Next}
+use Rattle.run_model.specs.Courses.{Course}
+use Rattle.run_model.specs.Start.{first_events, state_with}
+use Rattle.run_model.specs.State.{State}
+use Rattle.run_model.specs.Turns.{turn_of}
+use Rattle.proc_run.specs.BegunProcess.{thread_at_entry}
+use Rattle.proc_run.specs.RunEnds.{IsRun}
+use Rattle.call_laws.specs.Schedules.{events_from, own_turns, turns_from}
+use Rattle.call_laws.specs.BegunCalls.{IsAtClearEntry}
+use Rattle.run_laws.specs.Arrivals.{IsArrival, LeadsTo}
+use Rattle.run_laws.specs.Moments.{Enters, IsEntered, IsMoment}
+
+-- Each call that begins at a clear entry, and whose slot leads to a function, arrives there with its thread's fourth turn,
+-- whatever turns others have before that, unless the run is over.
+abbrev pub EnteredCallsArrive : ℕ → State → List ℕ → Type 0
+EnteredCallsArrive limit begin turns =
+    (s : State) (coming before rest : List ℕ) (t : ℕ) (thread : Thread) (call : Call) (f : Func) → IsMoment limit begin turns s coming
+    → Enters s t thread call → IsAtClearEntry s.loaded thread.cpu call → LeadsTo s.loaded call.number call.slot f
+    → coming ≡ before ++ t ∷ rest → own_turns t before ≡ 3
+    → IfSome (turns_from limit (before ++ t ∷ []) s) (IsArrival limit s (before ++ t ∷ []) t thread.cpu f)
+
+-- None of these four turns ends or stops the run, unless all steps that it may take are done.
+abbrev pub EnteredCallsGoOn : ℕ → State → List ℕ → Type 0
+EnteredCallsGoOn limit begin turns =
+    (s mid : State) (coming before rest : List ℕ) (t : ℕ) (thread : Thread) (call : Call) → IsMoment limit begin turns s coming
+    → Enters s t thread call → IsAtClearEntry s.loaded thread.cpu call → coming ≡ before ++ rest → own_turns t before ≤ 3
+    → turns_from limit before s ≡ Some mid → mid.steps < limit → (turn_of limit mid t).answer ≡ Next
+
+-- a consistent loader with the modules of another, which lie where they did
+pub record StandsAs (l now : Loaded) : Type 0 where
+  pub consistent : IsConsistent now
+  pub plan' : now.plan ≡ l.plan
+  pub process' : now.process ≡ l.process
+  pub maps' : now.maps ≡ l.maps
+
+-- What holds of the course of a run of what is loaded, from a state on, with the events before it. Each line of a call that
+-- begins stands for a call that does; calls go on and arrive; what is loaded stays; and no more steps are done than may be.
+pub record IsJournal (l : Loaded) (limit : ℕ) (begin : State) (first : List Event) (c : Course) : Type 0 where
+  pub turns : List ℕ
+  pub events' : c.events ≡ first ++ events_from limit turns begin
+  pub entered : (n t m k : ℕ) → Contains c.events (Enter n t m k) → IsEntered limit begin turns n t m k
+  pub arrives : EnteredCallsArrive limit begin turns
+  pub go_on : EnteredCallsGoOn limit begin turns
+  pub stands : (s : State) (coming : List ℕ) → IsMoment limit begin turns s coming → StandsAs l s.loaded
+  pub within : (s : State) (coming : List ℕ) → IsMoment limit begin turns s coming → s.steps ≤ limit
+
+-- the course of a job's run is a journal, from where the run begins
+abbrev pub IsJournalOf : (job : Job) (told : Files) (c : Course) → IsRun job told c → Type 0
+IsJournalOf job told c run =
+    let entry = thread_at_entry run.loaded run.entry in
+    IsJournal run.loaded job.steps (state_with run.loaded entry) (first_events run.loaded entry) c

@@ -1,8 +1,0 @@
--- What holds of a consistent loader.
-use Rattle.std.specs.Prelude.{ℕ, ◌<◌, ◌^◌}
-use Rattle.load_state.specs.Consistent.{IsConsistent}
-use Rattle.load_state.specs.Loaded.{Loaded}
-use Rattle.run_places.specs.Placed.{ArePlaced}
-
-abbrev pub ConsistentArePlaced : Type 0
-ConsistentArePlaced = (l : Loaded) → IsConsistent l → l.plan.memory < 2 ^ 32 → ArePlaced l.process l.maps

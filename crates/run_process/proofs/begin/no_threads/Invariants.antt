@@ -1,6 +1,0 @@
-use Rattle.std.proofs.Common.{◌≡◌, replicate, None}
-use Rattle.run_process.proofs.begin.no_threads.Given as goal
-
--- the places so far
-abbrev pub invariant-loop : goal.invariant-loop
-invariant-loop l = l.threads.items ≡ replicate l.counter None

@@ -1,0 +1,31 @@
+//! Calls that begin.
+
+ghost use Rattle.std.specs.Prelude.{◌≡◌};
+ghost use Rattle.run_model.specs.Places as spec;
+ghost use Rattle.run_turn.specs.parts.PlacedModules.{ArePlaced};
+
+use crate::code::{code_at, got_word};
+use a32_machine::Cpu;
+use load_model::{MapEntries, SymbolicProcess};
+use plt_code::slot_entered;
+use run_model::{BOUND_CALL, Call};
+
+/// The call that begins with this cpu: its pc is at a placed entry of a slot, and r9 is the GOT of the entry's module.
+pub fn call_begun(process: &SymbolicProcess, maps: &[MapEntries], cpu: &Cpu) -> Option<Call>
+    requires { ArePlaced process.now maps.now }
+    ensures { result ≡ spec.call_begun process.entry.now maps.now cpu.entry.now }
+{
+    let place = code_at(process, maps, cpu.r[15])?;
+    let object = process.object_at(place.module)?;
+    let slot = slot_entered(object, place.value)?;
+    if cpu.r[9] != got_word(process, maps, place.module) {
+        return None;
+    }
+    Some(Call {
+        number: place.module,
+        slot,
+        length: BOUND_CALL,
+        done: 0,
+        begin: *cpu,
+    })
+}
