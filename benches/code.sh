@@ -6,7 +6,7 @@
 set -eu
 
 top=$(cd "$(dirname "$0")/.." && pwd)
-program=$top/crates/fdpic_cmd/out/fdpic_cmd
+program=$top/crates/fdpic/out/fdpic
 work=$(mktemp -d)
 trap 'rm -rf "$work"' EXIT
 

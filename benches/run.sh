@@ -11,7 +11,7 @@ set -eu
 rounds=${1:-200}
 top=$(cd "$(dirname "$0")/.." && pwd)
 real=$top/../shared/data/real
-fdpic=$top/crates/fdpic_cmd/out/fdpic_cmd
+fdpic=$top/crates/fdpic/out/fdpic
 work=$(mktemp -d)
 trap 'rm -rf "$work"' EXIT
 

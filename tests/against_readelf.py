@@ -11,7 +11,7 @@ import re
 import subprocess
 import sys
 
-PROGRAM = pathlib.Path(__file__).resolve().parent.parent / "crates/fdpic_cmd/out/fdpic_cmd"
+PROGRAM = pathlib.Path(__file__).resolve().parent.parent / "crates/fdpic/out/fdpic"
 
 
 def lines(*words, folder):

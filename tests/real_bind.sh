@@ -3,10 +3,10 @@
 # that are listed there. Skipped where there is no such folder. Called at the project's top, after the gate.
 real=../shared/data/real
 [ -d "$real" ] || exit 0
-out=$(cd crates/fdpic_cmd/out && pwd) || exit 1
+out=$(cd crates/fdpic/out && pwd) || exit 1
 cd "$real" || exit 1
 for listing in *.bind; do
-    for program in "$out/fdpic_cmd" "$out/fdpic_cmd.by-rattle"; do
+    for program in "$out/fdpic" "$out/fdpic.by-rattle"; do
         "$program" bind "${listing%.bind}-eager.job" | cmp - "$listing" || exit 1
     done
 done

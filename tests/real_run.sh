@@ -4,10 +4,10 @@
 # Skipped where there is no such folder. Called at the project's top, after the gate.
 real=../shared/data/real
 [ -d "$real" ] || exit 0
-out=$(cd crates/fdpic_cmd/out && pwd) || exit 1
+out=$(cd crates/fdpic/out && pwd) || exit 1
 cd "$real" || exit 1
 grep -v '^#' expected.txt | while read -r name _ value _ bytes; do
-    for program in "$out/fdpic_cmd" "$out/fdpic_cmd.by-rattle"; do
+    for program in "$out/fdpic" "$out/fdpic.by-rattle"; do
         report=$("$program" run "$name-eager.job") || exit 1
         printf '%s\n' "$report" | awk -v value="$((value))" -v bytes="$bytes" '
             $1 == "out" && $4 != "-" { put = put $4 }

@@ -13,8 +13,6 @@ mod names;
 mod operands;
 mod printer;
 mod puts;
-#[cfg(test)]
-mod tests;
 
 pub use allowed::is_allowed;
 pub use decoder::decode;

@@ -13,8 +13,6 @@ mod multiple;
 mod multiply;
 mod registers;
 mod shifter;
-#[cfg(test)]
-mod tests;
 mod transfer;
 
 pub use cpu::{Cpu, StepEnd, StepStop};

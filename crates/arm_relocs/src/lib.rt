@@ -8,6 +8,3 @@ mod value;
 pub use branch::{MAX_DISTANCE, MIN_DISTANCE, branch_addend, branch_field};
 pub use laws::fields_are_read_back;
 pub use value::apply_value;
-
-#[cfg(test)]
-mod tests;

@@ -24,6 +24,3 @@ mod tables;
 pub use elf_model::{ElfKind, ElfRefusal};
 pub use error::ReadErr;
 pub use object::read_object;
-
-#[cfg(test)]
-mod tests;

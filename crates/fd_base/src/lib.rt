@@ -9,8 +9,6 @@ mod name;
 mod seq;
 mod sink;
 mod store;
-#[cfg(test)]
-mod tests;
 mod text;
 mod words;
 

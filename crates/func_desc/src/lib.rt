@@ -8,6 +8,3 @@ mod slots;
 pub use laws::free_slots_are_free;
 pub use pool::{DescPool, Full};
 pub use slots::DESCRIPTOR_SIZE;
-
-#[cfg(test)]
-mod tests;

@@ -6,8 +6,6 @@ mod guest;
 mod kind;
 mod laws;
 mod search;
-#[cfg(test)]
-mod tests;
 
 pub use guest::Guest;
 pub use kind::{Access, MemKind};

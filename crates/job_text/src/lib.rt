@@ -13,6 +13,3 @@ pub use laws::{each_kind, one_job, refused_where, sound_job};
 pub use limits::{Bounds, FORMAT_1, Limits, Setting};
 pub use read::read_job;
 pub use refusal::{JobErr, JobKind, JobRefusal};
-
-#[cfg(test)]
-mod tests;

@@ -19,6 +19,4 @@ pub use laws::{images_agree, sites_hold_their_words};
 pub use pairs::{SitePair, placed_pairs};
 pub use places::Places;
 pub use segments::{items, load_map};
-
-#[cfg(test)]
-mod tests;
+pub use write::write_words;

@@ -7,8 +7,9 @@ ghost use Rattle.load_image.specs.parts.Bounds.{IsWordWhole};
 use fd_base::put_word;
 use load_model::LinkWord;
 
-/// Writes the words that lie in the bytes from a link address on, the last one first.
-fn write_words(bytes: &mut [u8], vaddr: u32, words: &[LinkWord])
+/// Writes the words that lie in the bytes from a link address on, the last one first: where several cover a byte, the
+/// first of them stands.
+pub fn write_words(bytes: &mut [u8], vaddr: u32, words: &[LinkWord])
     requires end { vaddr + length bytes.old < 2 ^ 32 }
     requires whole { All (IsWordWhole vaddr (length bytes.old)) words.now }
     ensures { (i : ℕ) → i < length bytes.old

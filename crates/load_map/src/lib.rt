@@ -14,6 +14,3 @@ pub use laws::{places_stay_distinct, segments_stay_whole};
 pub use map::{LoadMap, MAX_ENTRIES};
 pub use maps::map_at;
 pub use translation::{address_of, is_placed_at, placed};
-
-#[cfg(test)]
-mod tests;

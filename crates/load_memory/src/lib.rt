@@ -13,6 +13,3 @@ pub use bytes::put_pair;
 pub use fresh::new_memory;
 pub use laws::{layouts_agree, put_pairs_keep_layout, room_is_free, stores_keep};
 pub use place::put_module;
-
-#[cfg(test)]
-mod tests;

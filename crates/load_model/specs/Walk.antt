@@ -76,26 +76,26 @@ pub record IsWalked (p : SymbolicProcess) (files : Option Files) (root : List �
 pub record IsWalk (p : SymbolicProcess) (files : Option Files) (root : List ℕ) (joining : List Joining) (names : List (List ℕ)) : Type 0 where
   pub walked : IsWalked p files root (length names) joining names
 
--- the next name is new, and there is no number for it
-pub record HasNoNumber (p : SymbolicProcess) (files : Option Files) (root : List ℕ) : Type 0 where
+-- The walk stands at a name that is new: these joined before it.
+pub record IsAtNewName (p : SymbolicProcess) (files : Option Files) (root : List ℕ) (joining : List Joining) (name : List ℕ) : Type 0 where
   pub n : ℕ
-  pub joining : List Joining
   pub names : List (List ℕ)
-  pub name : List ℕ
   pub walked : IsWalked p files root n joining names
   pub next : slice_get names n ≡ Some name
   pub new : number_of p name ≡ None
+
+-- there is no number for the next new name
+pub record HasNoNumber (p : SymbolicProcess) (files : Option Files) (root : List ℕ) : Type 0 where
+  pub joining : List Joining
+  pub name : List ℕ
+  pub at : IsAtNewName p files root joining name
   pub full : length joining ≡ length (free_numbers p)
 
--- the next name is new, there is a number for it, and its file is refused
+-- there is a number for the next new name, and its file is refused
 pub record HasNoObject (p : SymbolicProcess) (files : Option Files) (root : List ℕ) (r : LoadRefusal) : Type 0 where
-  pub n : ℕ
   pub joining : List Joining
-  pub names : List (List ℕ)
   pub name : List ℕ
-  pub walked : IsWalked p files root n joining names
-  pub next : slice_get names n ≡ Some name
-  pub new : number_of p name ≡ None
+  pub at : IsAtNewName p files root joining name
   pub free : length joining < length (free_numbers p)
   pub cause : IsFileRefused files name r
 

@@ -9,4 +9,3 @@ pub mod PairedLists
 pub mod PlansPlaceable
 pub mod PutDescriptors
 pub mod SegmentEnds
-pub mod TinyModules

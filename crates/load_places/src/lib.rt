@@ -9,6 +9,3 @@ mod modules;
 pub use descriptors::put_descriptors;
 pub use laws::{given_slots_have_room, maps_end, plans_are_placeable, steps_commit};
 pub use modules::put_modules;
-
-#[cfg(test)]
-mod tests;

@@ -19,13 +19,13 @@ use Rattle.load_process.proofs.BreadthFirst.{Names}
 no_object : (p : SymbolicProcess) (files : Option Files) (root : List ℕ) (n : ℕ) (joining : List Joining) (names : Names) (name : List ℕ) (r : LoadRefusal) → IsWalked p files root n joining names
     → slice_get names n ≡ Some name → number_of p name ≡ None → (length joining < length (free_numbers p)) × IsFileRefused files name r → HasNoObject p files root r
 no_object p files root n joining names name r w e new why =
-    record { n = n; joining = joining; names = names; name = name; walked = w; next = e; new = new; free = why.0; cause = why.1 }
+    record { joining = joining; name = name; at = record { n = n; names = names; walked = w; next = e; new = new }; free = why.0; cause = why.1 }
 
 -- the next name is refused
 pub look_refused : (p : SymbolicProcess) (files : Option Files) (root : List ℕ) (n : ℕ) (joining : List Joining) (names : Names) (name : List ℕ) (r : LoadRefusal) → IsWalked p files root n joining names
     → slice_get names n ≡ Some name → IsLookRefused p files name joining r → IsWalkRefused p files root r
 look_refused p files root n joining names name TooManyModules w e why =
-    record { n = n; joining = joining; names = names; name = name; walked = w; next = e; new = why.0; full = omega (arith, why.1, w.few) }
+    record { joining = joining; name = name; at = record { n = n; names = names; walked = w; next = e; new = why.0 }; full = omega (arith, why.1, w.few) }
 look_refused p files root n joining names name (TooLong m) w e why = no_object p files root n joining names name (TooLong m) w e why.0 why.1
 look_refused p files root n joining names name (NoFile m) w e why = no_object p files root n joining names name (NoFile m) w e why.0 why.1
 look_refused p files root n joining names name (Elf m r) w e why = no_object p files root n joining names name (Elf m r) w e why.0 why.1

@@ -15,7 +15,7 @@ use Rattle.load_model.specs.declared.module.SymbolicProcess.{SymbolicProcess}
 use Rattle.load_model.specs.declared.error.LoadRefusal.{LoadRefusal}
 use Rattle.load_model.specs.declared.error.LoadRefusal.TheVariants.{NotBuilt, Elf, NoFile, TooLong, TooManyModules, Unresolved, NotCode, DescriptorsFull, NoRoom, BadAddress}
 use Rattle.load_model.specs.Process.{number_of, free_numbers}
-use Rattle.load_model.specs.Walk.{FileIs, FileIsRefused, IsFileRefused, found_after, IsWalked, IsWalk, HasNoObject, IsWalkRefused}
+use Rattle.load_model.specs.Walk.{FileIs, FileIsRefused, IsFileRefused, found_after, IsWalked, IsWalk, IsAtNewName, HasNoObject, IsWalkRefused}
 use Rattle.load_process.specs.parts.WalkLaws.{WalksAreDetermined}
 use Rattle.load_process.proofs.BreadthFirst.{Names, IsFront, front, stays, found_all}
 use Rattle.load_process.proofs.ToldNeeds.{HasJoined, has_joined, told_needs, told_names}
@@ -177,21 +177,15 @@ record Stop (p : SymbolicProcess) (told : Files) (root : List ℕ) (r : LoadRefu
   new : number_of p name ≡ None
   why : Reason p told js name r
 
+-- the walk stands at a new name, and this is why it ends there
+stop_at : (p : SymbolicProcess) (told : Files) (root : List ℕ) (js : List Joining) (name : List ℕ) (r : LoadRefusal) → IsAtNewName p (Some told) root js name → Reason p told js name r → Stop p told root r
+stop_at p told root js name r at why = record { n = at.n; js = js; names = at.names; name = name; walked = at.walked; next = at.next; new = at.new; why = why }
+
 object_stop : (p : SymbolicProcess) (told : Files) (root : List ℕ) (r : LoadRefusal) → HasNoObject p (Some told) root r → Stop p told root r
-object_stop p told root r h = record {
-  n = h.n;
-  js = h.joining;
-  names = h.names;
-  name = h.name;
-  walked = h.walked;
-  next = h.next;
-  new = h.new;
-  why = refusal h.free (file_case told h.name r h.cause);
-}
+object_stop p told root r h = stop_at p told root h.joining h.name r h.at (refusal h.free (file_case told h.name r h.cause))
 
 stop_of : (p : SymbolicProcess) (told : Files) (root : List ℕ) (r : LoadRefusal) → IsWalkRefused p (Some told) root r → Stop p told root r
-stop_of p told root TooManyModules h =
-    record { n = h.n; js = h.joining; names = h.names; name = h.name; walked = h.walked; next = h.next; new = h.new; why = full refl h.full }
+stop_of p told root TooManyModules h = stop_at p told root h.joining h.name TooManyModules h.at (full refl h.full)
 stop_of p told root (TooLong n) h = object_stop p told root (TooLong n) h
 stop_of p told root (NoFile n) h = object_stop p told root (NoFile n) h
 stop_of p told root (Elf n e) h = object_stop p told root (Elf n e) h

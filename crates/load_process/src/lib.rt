@@ -19,8 +19,3 @@ pub use laws::{empty_scope, loads_join, loads_keep_valid, loads_leave_scopes, nu
 pub use scope::{global_after, scope_with};
 pub use walk_laws::{walks_are_determined, walks_close};
 pub use walking::walk;
-
-#[cfg(test)]
-mod tests;
-#[cfg(test)]
-mod walk_tests;

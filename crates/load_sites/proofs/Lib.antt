@@ -5,5 +5,4 @@ pub mod SameFunctions
 pub mod SiteEnds
 pub mod SiteValues
 pub mod SlotsLead
-pub mod TestObjects
 pub mod ToldErrors

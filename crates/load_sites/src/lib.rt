@@ -19,6 +19,3 @@ pub use laws::{
 pub use linker::Linker;
 pub use private::Privates;
 pub use values::Values;
-
-#[cfg(test)]
-mod tests;

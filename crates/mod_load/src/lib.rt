@@ -7,8 +7,6 @@ mod loader;
 mod program;
 mod slots;
 mod tables;
-#[cfg(test)]
-mod tests;
 
 pub use load_model::{
     LoadErr, LoadRefusal, MAX_MODULES, MemPlan, PlaceLine, Places, SlotPair, SymbolicProcess,

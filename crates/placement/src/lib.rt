@@ -9,6 +9,3 @@ mod search;
 pub use item::{Addrs, Held, Item, Items};
 pub use laws::{holds_just_these, keeps_apart, one_placing, regardless_of_order};
 pub use ranges::{PlaceErr, Ranges};
-
-#[cfg(test)]
-mod tests;

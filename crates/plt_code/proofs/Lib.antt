@@ -1,5 +1,4 @@
 pub mod Called
-pub mod Examples
 pub mod Listed
 pub mod Offsets
 pub mod Resolved

@@ -18,8 +18,3 @@ pub use lazy::lazy_place;
 pub use listing::{Entries, Entry, entries};
 pub use standing::{is_code_in, is_near, spans, stand_at};
 pub use words::entry_words;
-
-#[cfg(test)]
-mod example;
-#[cfg(test)]
-mod tests;

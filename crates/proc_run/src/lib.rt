@@ -10,6 +10,3 @@ mod taking;
 pub use course::run;
 pub use end::RunEnd;
 pub use process::Process;
-
-#[cfg(test)]
-mod tests;

@@ -8,6 +8,3 @@ mod placing;
 pub use laws::{lists_read_back, values_are_placed};
 pub use list::emit;
 pub use placing::{Outside, apply};
-
-#[cfg(test)]
-mod tests;

@@ -8,6 +8,3 @@ mod text;
 
 pub use line::{put_event, put_events};
 pub use output::put_report;
-
-#[cfg(test)]
-mod tests;

@@ -22,6 +22,3 @@ pub use placed::{PlacedModules, Step};
 pub use placed_laws::consistent_are_placed;
 pub use service::serve;
 pub use settling::{Settled, settle, stopped};
-
-#[cfg(test)]
-mod tests;

@@ -12,6 +12,3 @@ pub use exports::{Exports, is_exported};
 pub use laws::{closures_of_names, closures_of_numbers, exports_are_first};
 pub use table::Table;
 pub use tables::{Found, MAX_MODULES, Tables};
-
-#[cfg(test)]
-mod tests;

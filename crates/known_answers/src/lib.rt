@@ -1,0 +1,43 @@
+//! Tests of all crates above whose values come from outside: from the standards' tables, from other tools, or from
+//! examples worked by hand. They stand here, and not in their crates, since a crate with tests is proved once more
+//! beside them.
+#![tactic(auto)]
+
+#[cfg(test)]
+mod commands;
+#[cfg(test)]
+mod descriptors;
+#[cfg(test)]
+mod entries;
+#[cfg(test)]
+mod files;
+#[cfg(test)]
+mod fixups;
+#[cfg(test)]
+mod instructions;
+#[cfg(test)]
+mod jobs;
+#[cfg(test)]
+mod lines;
+#[cfg(test)]
+mod loads;
+#[cfg(test)]
+mod maps;
+#[cfg(test)]
+mod memory;
+#[cfg(test)]
+mod placing;
+#[cfg(test)]
+mod readers;
+#[cfg(test)]
+mod relocations;
+#[cfg(test)]
+mod scopes;
+#[cfg(test)]
+mod services;
+#[cfg(test)]
+mod sites;
+#[cfg(test)]
+mod steps;
+#[cfg(test)]
+mod words;
