@@ -16,7 +16,7 @@ use Rattle.plt_code.proofs.Called.{entered}
 use Rattle.run_model.specs.declared.thread.Call.{Call}
 use Rattle.run_model.specs.declared.thread.TheConstants.{BOUND_CALL}
 use Rattle.run_model.specs.Places.{call_begun, call_in, call_through, code_at, got_word}
-use Rattle.call_laws.specs.Calls.{Holds, bound_call}
+use Rattle.call_laws.specs.Calls.{Holds, bound_call, slot_of}
 use Rattle.call_laws.proofs.ClearEntries.{calls_are_held_lem}
 use Rattle.call_laws.specs.BegunCalls.{BegunCallsHold, IsHeldCall}
 use Rattle.call_laws.proofs.CodePlaces.{coded_by, placed_at_code}
@@ -76,6 +76,7 @@ module _ (l : Loaded) (cpu : Cpu) (h : IsConsistent l) (small : l.plan.memory < 
         is_new = refl;
         begins = record { registers = registers; place = refl; got = eqb-true (get_or cpu.r 9 0) (got_word l.process l.maps m) b.got };
         holds = subst (λ (a : ℕ). Holds l.memory (bound_call a (got_word l.process l.maps m) slot.0)) at by_got;
+        leads = subst (λ (g : ℕ). slot_of (bound_call (pc_of cpu) g slot.0) ≡ (slot.0).addr) (sym got) held.leads;
       }
 
 pub begun_calls_hold_lem : BegunCallsHold

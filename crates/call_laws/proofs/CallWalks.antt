@@ -105,6 +105,18 @@ pub own_turn : (limit : ℕ) (s : State) (t n : ℕ) (begin : Cpu) (c : BoundCal
     → IfSome (after (turn_of limit s t)) (InCall begin c t (suc n))
 own_turn limit s t n begin c b h l = own_turn-by limit s t n begin c (nat_le limit s.steps) refl b h l
 
+-- such a turn leaves the memory, and all that is loaded
+pub calls_keep : (limit : ℕ) (s : State) (t : ℕ) (begin : Cpu) (c : BoundCall) → Begins begin c → (n : ℕ) (b : Bool) → nat_le limit s.steps ≡ b → InCall begin c t n s → n < 4
+    → (turn_of limit s t).state.loaded ≡ s.loaded
+calls_keep limit s t begin c b n true late h l =
+    let live = thread_of (thread_at s.threads t) (cpu_after begin c n) h.cpu in
+    ap (λ (taken : Taken). taken.state.loaded) (stopped_is limit s t live.thread live.at late)
+calls_keep limit s t begin c b n false early h l =
+    let live = thread_of (thread_at s.threads t) (cpu_after begin c n) h.cpu in
+    let cpu : Cpu = cpu_after begin c (suc n) in
+    let step : step_of live.thread.cpu s.loaded.memory ≡ went_on cpu s.loaded.memory = ap (λ x. step_of x s.loaded.memory) live.is ∙ call_step begin c s.loaded.memory n b h.holds l in
+    ap (λ (taken : Taken). taken.state.loaded) (went_is limit s t live.thread cpu live.at early step)
+
 -- ---- a turn of another
 
 pub other_turn : (limit : ℕ) (s : State) (t u n : ℕ) (begin : Cpu) (c : BoundCall) → t ≢ u → InCall begin c t n s → IfSome (after (turn_of limit s u)) (InCall begin c t n)

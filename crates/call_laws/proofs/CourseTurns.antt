@@ -9,56 +9,57 @@ use Rattle.run_model.specs.State.{State, live_from}
 use Rattle.run_model.specs.Turns.{Taken, turn_of}
 use Rattle.call_laws.specs.parts.TurnLaws.{CoursesAreTurns}
 use Rattle.call_laws.specs.Schedules.{after, events_from, going_on}
+use Rattle.call_laws.specs.TakenTurns.{threads_after, threads_freely, threads_next, threads_of, threads_of_turns}
 
 module _ (limit : ℕ) where
   -- a course that takes these turns from a state on
-  abbrev IsOf : State → Course → Type 0
-  IsOf s course = (schedule : List ℕ) × (course.events ≡ events_from limit schedule s)
+  abbrev IsOf : State → Course → List ℕ → Type 0
+  IsOf s course threads = course.events ≡ events_from limit threads s
 
   -- what a turn and the turns after it report
-  abbrev Reports : List Event → Option State → Course → Type 0
-  Reports events o course = (us : List ℕ) × (course.events ≡ events ++ option_map_or (events_from limit us) o [])
+  abbrev reports : List Event → Option State → List ℕ → List Event
+  reports events o threads = events ++ option_map_or (events_from limit threads) o []
 
-  ended : (events : List Event) (answer : Turned) → Reports events None (record { events = events; answer = answer })
-  ended events answer = ([], sym (append-nil events))
+  followed-reports : (answer : Turned) (events : List Event) (s : State) (same others : Course) (ts us : List ℕ) → IsOf s same ts → IsOf s others us
+      → (followed answer events same others).events ≡ reports events (going_on answer s) (threads_after answer ts us)
+  followed-reports Next events s same others ts us h k = ap (λ es. events ++ es) h
+  followed-reports Yield events s same others ts us h k = ap (λ es. events ++ es) k
+  followed-reports ThreadDone events s same others ts us h k = ap (λ es. events ++ es) k
+  followed-reports Ended events s same others ts us h k = sym (append-nil events)
+  followed-reports (Stopped why) events s same others ts us h k = sym (append-nil events)
+  followed-reports StoreFault events s same others ts us h k = sym (append-nil events)
+  followed-reports SinkFault events s same others ts us h k = sym (append-nil events)
+  followed-reports Memory events s same others ts us h k = sym (append-nil events)
 
-  followed-reports : (answer : Turned) (events : List Event) (s : State) (same others : Course) → IsOf s same → IsOf s others
-      → Reports events (going_on answer s) (followed answer events same others)
-  followed-reports Next events s same others h k = (h.0, ap (λ es. events ++ es) h.1)
-  followed-reports Yield events s same others h k = (k.0, ap (λ es. events ++ es) k.1)
-  followed-reports ThreadDone events s same others h k = (k.0, ap (λ es. events ++ es) k.1)
-  followed-reports Ended events s same others h k = ended events Ended
-  followed-reports (Stopped why) events s same others h k = ended events (Stopped why)
-  followed-reports StoreFault events s same others h k = ended events StoreFault
-  followed-reports SinkFault events s same others h k = ended events SinkFault
-  followed-reports Memory events s same others h k = ended events Memory
-
-  turn-reports : (t : ℕ) (s : State) (same others : State → Course) → ((later : State) → IsOf later (same later)) → ((later : State) → IsOf later (others later))
-      → IsOf s (after_turn (turn_of limit s t) same others)
-  turn-reports t s same others h k =
+  turn-reports : (t : ℕ) (s : State) (same others : State → Course) (ts us : State → List ℕ) → ((later : State) → IsOf later (same later) (ts later))
+      → ((later : State) → IsOf later (others later) (us later)) → IsOf s (after_turn (turn_of limit s t) same others) (t ∷ threads_next (turn_of limit s t) ts us)
+  turn-reports t s same others ts us h k =
       let taken : Taken = turn_of limit s t in
-      let r = followed-reports taken.answer taken.events taken.state (same taken.state) (others taken.state) (h taken.state) (k taken.state) in
-      (t ∷ r.0, r.1)
+      let later : State = taken.state in
+      followed-reports taken.answer taken.events later (same later) (others later) (ts later) (us later) (h later) (k later)
 
-  turns_of-reports : (t : ℕ) (rest : State → Course) (n : ℕ) → ((later : State) → IsOf later (rest later)) → (s : State) → IsOf s (turns_of limit t rest n s)
-  turns_of-reports t rest zero k s = k s
-  turns_of-reports t rest (suc n) k s = turn-reports t s (turns_of limit t rest n) rest (turns_of-reports t rest n k) k
+  turns_of-reports : (t : ℕ) (rest : State → Course) (us : State → List ℕ) (n : ℕ) → ((later : State) → IsOf later (rest later) (us later)) → (s : State)
+      → IsOf s (turns_of limit t rest n s) (threads_of_turns limit t us n s)
+  turns_of-reports t rest us zero k s = k s
+  turns_of-reports t rest us (suc n) k s =
+      turn-reports t s (turns_of limit t rest n) rest (threads_of_turns limit t us n) us (turns_of-reports t rest us n k) k
 
   nothing_more : (events : List Event) (o : Option State) → events ≡ events ++ option_map_or (events_from limit []) o []
   nothing_more events None = sym (append-nil events)
   nothing_more events (Some s) = sym (append-nil events)
 
-  freely-reports : (most : ℕ) (o : Option ℕ) (s : State) → IsOf s (freely limit most o s)
-  freely-reports zero None s = ([], refl)
-  freely-reports (suc most) None s = ([], refl)
-  freely-reports zero (Some t) s = (t ∷ [], nothing_more (turn_of limit s t).events (after (turn_of limit s t)))
+  freely-reports : (most : ℕ) (o : Option ℕ) (s : State) → IsOf s (freely limit most o s) (threads_freely limit most o s)
+  freely-reports zero None s = refl
+  freely-reports (suc most) None s = refl
+  freely-reports zero (Some t) s = nothing_more (turn_of limit s t).events (after (turn_of limit s t))
   freely-reports (suc most) (Some t) s =
-      turn-reports t s (freely limit most (Some t)) (λ later. freely limit most (live_from later.threads (suc t)) later) (freely-reports most (Some t))
+      turn-reports t s (freely limit most (Some t)) (λ later. freely limit most (live_from later.threads (suc t)) later) (threads_freely limit most (Some t))
+      (λ later. threads_freely limit most (live_from later.threads (suc t)) later) (freely-reports most (Some t))
       (λ later. freely-reports most (live_from later.threads (suc t)) later)
 
-  course-reports : (turns : List (ℕ × ℕ)) (s : State) → IsOf s (course_of limit turns s)
+  course-reports : (turns : List (ℕ × ℕ)) (s : State) → IsOf s (course_of limit turns s) (threads_of limit turns s)
   course-reports [] s = freely-reports limit (live_from s.threads 0) s
-  course-reports (turn ∷ turns) s = turns_of-reports turn.0 (course_of limit turns) turn.1 (course-reports turns) s
+  course-reports (turn ∷ turns) s = turns_of-reports turn.0 (course_of limit turns) (threads_of limit turns) turn.1 (course-reports turns) s
 
 pub courses_are_turns : CoursesAreTurns
 courses_are_turns limit turns s = course-reports limit turns s

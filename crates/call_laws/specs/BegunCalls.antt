@@ -13,7 +13,7 @@ use Rattle.plt_code.specs.Entries.{IsClear}
 use Rattle.run_model.specs.declared.thread.Call.{Call}
 use Rattle.run_model.specs.declared.thread.TheConstants.{BOUND_CALL}
 use Rattle.run_model.specs.Places.{call_begun, code_at, got_word}
-use Rattle.call_laws.specs.Calls.{Begins, Holds, bound_call}
+use Rattle.call_laws.specs.Calls.{Begins, Holds, bound_call, slot_of}
 
 -- nothing that loading fills meets the entry at which the pc is
 abbrev pub IsAtClearEntry : Loaded → Cpu → Call → Type 0
@@ -28,6 +28,8 @@ pub record IsHeldCall (l : Loaded) (cpu : Cpu) (call : Call) : Type 0 where
   pub is_new : call.done ≡ 0
   pub begins : Begins cpu (bound_call (pc_of cpu) (got_word l.process l.maps call.number) pair)
   pub holds : Holds l.memory (bound_call (pc_of cpu) (got_word l.process l.maps call.number) pair)
+  -- the entry leads to the slot
+  pub leads : slot_of (bound_call (pc_of cpu) (got_word l.process l.maps call.number) pair) ≡ pair.addr
 
 abbrev pub BegunCallsHold : Type 0
 BegunCallsHold =

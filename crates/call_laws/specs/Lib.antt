@@ -1,4 +1,5 @@
 pub mod BegunCalls
 pub mod Calls
 pub mod Schedules
+pub mod TakenTurns
 pub mod parts

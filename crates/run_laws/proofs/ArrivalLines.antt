@@ -1,5 +1,5 @@
 -- A call walks to its arrival: its line is among those of the turns until then.
-use Rattle.std.proofs.Common.{◌≡◌, ℕ, suc, ◌+◌, ◌≤◌, Bool, true, false, cond, List, [], ◌∷◌, ◌++◌, Option, Some, None, refl, ap, sym, subst, ◌∙◌, arith, add-zero, append-nil, append_assoc}
+use Rattle.std.proofs.Common.{◌≡◌, ℕ, suc, ◌+◌, ◌≤◌, Bool, true, false, cond, List, [], ◌∷◌, ◌++◌, Option, Some, None, refl, sym, subst, arith, add-zero}
 use Rattle.std.specs.Prelude.{IfSome, nat_le, option_and_then, ◌==◌}
 use Rattle.std.specs.Option.{option_map_or}
 use Rattle.std.proofs.lemmas.Bool.{eqb-true, eqb-false}
@@ -15,30 +15,7 @@ use Rattle.call_laws.specs.Schedules.{after, events_from, own_turns, turns_from}
 use Rattle.call_laws.proofs.Arrivals.{Making, last_by, next_by, other_makes}
 use Rattle.call_laws.proofs.ListMembers.{Has, has_left, has_right}
 use Rattle.call_laws.proofs.CallWalks.{InCall, own_turn, then_turns, turns_more}
-
--- ---- some turns and then others
-
-turns_then : (limit : ℕ) (ts us : List ℕ) (s : State) → turns_from limit (ts ++ us) s ≡ option_and_then (turns_from limit us) (turns_from limit ts s)
-turns_then limit [] us s = refl
-turns_then limit (t ∷ ts) us s = by (after (turn_of limit s t)) (turns_then limit ts us)
-  where
-    by : (o : Option State) → ((later : State) → turns_from limit (ts ++ us) later ≡ option_and_then (turns_from limit us) (turns_from limit ts later))
-        → option_and_then (turns_from limit (ts ++ us)) o ≡ option_and_then (turns_from limit us) (option_and_then (turns_from limit ts) o)
-    by None more = refl
-    by (Some later) more = more later
-
--- the events of these turns from where a run goes on
-abbrev events_if : ℕ → List ℕ → Option State → List Event
-events_if limit us o = option_map_or (events_from limit us) o []
-
-events_then : (limit : ℕ) (ts us : List ℕ) (s : State) → events_from limit (ts ++ us) s ≡ events_from limit ts s ++ events_if limit us (turns_from limit ts s)
-events_then limit [] us s = refl
-events_then limit (t ∷ ts) us s = by (turn_of limit s t).events (after (turn_of limit s t)) (events_then limit ts us)
-  where
-    by : (events : List Event) (o : Option State) → ((later : State) → events_from limit (ts ++ us) later ≡ events_from limit ts later ++ events_if limit us (turns_from limit ts later))
-        → events ++ events_if limit (ts ++ us) o ≡ (events ++ events_if limit ts o) ++ events_if limit us (option_and_then (turns_from limit ts) o)
-    by events None more = sym (append-nil (events ++ []))
-    by events (Some later) more = ap (λ es. events ++ es) (more later) ∙ sym (append_assoc events (events_from limit ts later) (events_if limit us (turns_from limit ts later)))
+use Rattle.run_laws.proofs.TurnLists.{events_then, turns_then}
 
 -- ---- a call
 

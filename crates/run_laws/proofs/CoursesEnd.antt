@@ -99,7 +99,7 @@ freely_ends limit (suc most) (Some t) s live le =
 
 -- ---- the course
 
-course_ends : (limit : ℕ) (turns : List (ℕ × ℕ)) (s : State) → HasEnded (course_of limit turns s).answer
+pub course_ends : (limit : ℕ) (turns : List (ℕ × ℕ)) (s : State) → HasEnded (course_of limit turns s).answer
 course_ends limit [] s = freely_ends limit limit (live_from s.threads 0) s (next_lives s 0) (omega arith)
 course_ends limit (turn ∷ turns) s = turns_end limit turn.0 (course_of limit turns) (course_ends limit turns) turn.1 s
 

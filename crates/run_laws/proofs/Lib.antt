@@ -1,8 +1,15 @@
 pub mod ArrivalLines
 pub mod CallArrivals
+pub mod CallHistories
 pub mod CourseJournals
 pub mod CoursesEnd
-pub mod EnterLines
+pub mod JournalLines
+pub mod LastTurns
 pub mod Moments
+pub mod NowhereCalls
+pub mod RegisterCounts
 pub mod RunStarts
+pub mod RunsComeTo
 pub mod RunsDetermined
+pub mod TurnCases
+pub mod TurnLists

@@ -1,5 +1,5 @@
 -- The beginning of a run: what is loaded is consistent, and thread 0 stands at the entry point.
-use Rattle.std.proofs.Common.{◌≡◌, ℕ, zero, suc, ◌≤◌, Bool, true, false, cond, List, [], ◌∷◌, Option, Some, None, length, replicate, refl, subst, ◌∙◌, arith, inl, inr}
+use Rattle.std.proofs.Common.{◌≡◌, ℕ, zero, suc, ◌<◌, ◌≤◌, Bool, true, false, cond, List, [], ◌∷◌, Option, Some, None, length, replicate, refl, sym, subst, ◌∙◌, arith, inl, inr}
 use Rattle.std.specs.Prelude.{All, IsSomeAnd, map}
 use Rattle.std.specs.FinMap.{get}
 use Rattle.std.specs.Option.{option_to_list}
@@ -30,8 +30,10 @@ use Rattle.run_model.specs.State.{State, thread_at}
 use Rattle.run_model.specs.Turns.{entering}
 use Rattle.proc_run.specs.BegunProcess.{thread_at_entry}
 use Rattle.load_state.specs.ProgramLoad.{IsProgramLoaded}
-use Rattle.run_laws.specs.Moments.{IsEntered}
-use Rattle.run_laws.proofs.EnterLines.{Told, contains_option, new_begins}
+use Rattle.run_laws.specs.Moments.{Enters}
+use Rattle.run_laws.proofs.CallHistories.{HasBegun, IsReached, contains_option, new_begins, new_length, place_cases}
+use Rattle.run_laws.proofs.JournalLines.{Tells}
+use Rattle.run_laws.proofs.LastTurns.{SomeLives}
 use Rattle.run_laws.proofs.Moments.{IsOwn, IsSettled, StandsAtMoment, each_option, lives_after_set}
 
 -- ---- what is loaded
@@ -83,32 +85,80 @@ module _ (l : Loaded) (entry limit : ℕ) where
     ];
   }
 
+  -- the call that begins at the entry point
+  first-enters : (call : Call) → call_begun l.process l.maps first.cpu ≡ Some call → Enters begin 0 first call
+  first-enters call is = record {
+    new = record { lives = refl; among = contains_option (call_begun l.process l.maps first.cpu) call is; none_done = new_begins l first call is };
+    begun = is;
+  }
+
+  first-histories : All (HasBegun limit begin [] 0) first.calls
+  first-histories =
+      each_option (HasBegun limit begin [] 0) (call_begun l.process l.maps first.cpu) (λ call is. record {
+        first = [];
+        before = [];
+        done' = refl;
+        s = begin;
+        reached = refl;
+        thread = first;
+        new = call;
+        enters = first-enters call is;
+        own = sym (new_begins l first call is);
+        length' = new_length l first call is;
+      })
+
+  first-kept : (u : ℕ) (thread : Thread) → u ≡ 0 → Some first ≡ Some thread → All (HasBegun limit begin [] u) thread.calls
+  first-kept u thread at is =
+      let same : first ≡ thread = cc in
+      subst (λ (x : Thread). All (HasBegun limit begin [] u) x.calls) same (subst (λ (v : ℕ). All (HasBegun limit begin [] v) first.calls) (sym at) first-histories)
+
+  pub begin-reached : IsConsistent l → IsReached l limit begin [] begin
+  begin-reached consistent = record {
+    reached = refl;
+    stands = begin-stays consistent;
+    histories = λ u thread at.
+        let inside : 0 < 8 = omega arith in
+        elim (place_cases (replicate THREADS None) 0 u (Some first) thread inside at) as (λ _. All (HasBegun limit begin [] u) thread.calls) [
+          | inl here ↦ first-kept u thread here.0 here.1
+          | inr there ↦ absurd (nobody THREADS u thread there.1)
+        ];
+  }
+
+  pub begin-lives : SomeLives begin
+  begin-lives = record { count = refl; some = refl }
+
   -- ---- the events before the first step
 
-  loads-told : (P : ℕ → ℕ → ℕ → ℕ → Type 0) (m : ℕ) (places : List (Option Live)) → All (Told P) (load_events_from m places)
-  loads-told P m [] = All-nil (Told P)
-  loads-told P m (None ∷ places) = loads-told P (suc m) places
-  loads-told P m (Some live ∷ places) =
-      All-append (Told P) (load_events_of m live) (load_events_from (suc m) places) (one (has_inits live.object.inits)) (loads-told P (suc m) places)
+  loads-tell : (turns : List ℕ) (m : ℕ) (places : List (Option Live)) → All (Tells limit begin turns) (load_events_from m places)
+  loads-tell turns m [] = All-nil (Tells limit begin turns)
+  loads-tell turns m (None ∷ places) = loads-tell turns (suc m) places
+  loads-tell turns m (Some live ∷ places) =
+      All-append (Tells limit begin turns) (load_events_of m live) (load_events_from (suc m) places) (one (has_inits live.object.inits)) (loads-tell turns (suc m) places)
     where
-      one : (b : Bool) → All (Told P) (event.Load m live.name ∷ cond b (event.Skipped m ∷ []) [])
-      one true = All-cons (Told P) (event.Load m live.name) (event.Skipped m ∷ []) tt (All-cons (Told P) (event.Skipped m) [] tt (All-nil (Told P)))
-      one false = All-cons (Told P) (event.Load m live.name) [] tt (All-nil (Told P))
+      skipped : All (Tells limit begin turns) (event.Skipped m ∷ [])
+      skipped = All-cons (Tells limit begin turns) (event.Skipped m) [] (record { calls' = tt; within = tt }) (All-nil (Tells limit begin turns))
 
-  pub first-told : (turns : List ℕ) → All (Told (IsEntered limit begin turns)) (first_events l first)
-  first-told turns =
-      let P : Event → Type 0 = Told (IsEntered limit begin turns) in
+      one : (b : Bool) → All (Tells limit begin turns) (event.Load m live.name ∷ cond b (event.Skipped m ∷ []) [])
+      one true = All-cons (Tells limit begin turns) (event.Load m live.name) (event.Skipped m ∷ []) (record { calls' = tt; within = tt }) skipped
+      one false = All-cons (Tells limit begin turns) (event.Load m live.name) [] (record { calls' = tt; within = tt }) (All-nil (Tells limit begin turns))
+
+  pub first-tells : (turns : List ℕ) → All (Tells limit begin turns) (first_events l first)
+  first-tells turns =
+      let P : Event → Type 0 = Tells limit begin turns in
       let o : Option Call = call_begun l.process l.maps first.cpu in
-      All-append P (load_events l.process) (map (entering 0 0) first.calls) (loads-told (IsEntered limit begin turns) 0 l.process.modules)
+      All-append P (load_events l.process) (map (entering 0 0) first.calls) (loads-tell turns 0 l.process.modules)
       (All-map P (entering 0 0) (option_to_list o)
-      (each_option (λ (call : Call). IsEntered limit begin turns 0 0 call.number call.slot) o (λ call is. record {
-        s = begin;
-        coming = turns;
-        moment = record { done = []; turns' = refl; state' = refl };
-        steps' = refl;
-        thread = first;
-        call = call;
-        enters = record { lives = refl; among = contains_option o call is; is_new = new_begins l first call is };
-        number' = refl;
-        slot' = refl;
+      (each_option (λ (call : Call). P (entering 0 0 call)) o (λ call is. record {
+        calls' = record {
+          s = begin;
+          coming = turns;
+          moment = record { done = []; turns' = refl; state' = refl };
+          steps' = refl;
+          thread = first;
+          call = call;
+          enters = first-enters call is;
+          number' = refl;
+          slot' = refl;
+        };
+        within = omega arith;
       })))

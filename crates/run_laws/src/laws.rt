@@ -1,6 +1,6 @@
 //! What the run of a job comes to. A call of one does nothing.
 
-ghost use Rattle.run_laws.specs.parts.RunLaws.{RunsAreDetermined, RunsEnd};
+ghost use Rattle.run_laws.specs.parts.RunLaws.{RunsAreDetermined, RunsComeTo, RunsEnd};
 
 /// A job over told files has one course, or one refusal, and not both.
 pub fn runs_are_determined()
@@ -10,4 +10,9 @@ pub fn runs_are_determined()
 /// The course of a job ends where the process ends or stops.
 pub fn runs_end()
     ensures { RunsEnd }
+{}
+
+/// Where the load of its program is done or refused, a job has a course that ends, or a refusal.
+pub fn runs_come_to()
+    ensures { RunsComeTo }
 {}

@@ -6,4 +6,4 @@ mod journals;
 mod laws;
 
 pub use journals::runs_have_journals;
-pub use laws::{runs_are_determined, runs_end};
+pub use laws::{runs_are_determined, runs_come_to, runs_end};

@@ -9,6 +9,7 @@ use Rattle.run_model.specs.State.{State, thread_at}
 use Rattle.run_model.specs.Turns.{turn_of}
 use Rattle.call_laws.specs.Calls.{BoundCall, Begins, HasCpu, Holds, arrived, cpu_after}
 use Rattle.call_laws.specs.Schedules.{after, events_from, own_turns, turns_from}
+use Rattle.call_laws.specs.TakenTurns.{threads_of}
 
 -- A turn of one thread: modules stay where they are, watched bytes and all that isn't Data stay, and so do other threads.
 pub record IsTurnOf (t : ℕ) (old new : State) : Type 0 where
@@ -35,4 +36,4 @@ CallsGoOn = (limit : ℕ) (s : State) (t : ℕ) (begin : Cpu) (c : BoundCall) (n
 
 -- A run takes one turn after another: what holds of all turns holds of runs.
 abbrev pub CoursesAreTurns : Type 0
-CoursesAreTurns = (limit : ℕ) (turns : List (ℕ × ℕ)) (s : State) → (schedule : List ℕ) × ((course_of limit turns s).events ≡ events_from limit schedule s)
+CoursesAreTurns = (limit : ℕ) (turns : List (ℕ × ℕ)) (s : State) → (course_of limit turns s).events ≡ events_from limit (threads_of limit turns s) s

@@ -1,7 +1,10 @@
 -- What the run of a job comes to is determined by the job and the told files, and every run ends.
-use Rattle.std.specs.Prelude.{◌≡◌}
+use Rattle.std.specs.Prelude.{◌≡◌, ◌⊎◌, ℕ, List}
 use Rattle.fd_base.specs.Fetched.{Files}
 use Rattle.load_model.specs.declared.error.LoadRefusal.{LoadRefusal}
+use Rattle.load_model.specs.declared.plan.MemPlan.{MemPlan}
+use Rattle.load_state.specs.Loaded.{Loaded}
+use Rattle.load_state.specs.ProgramLoad.{IsLoadRefused, IsProgramLoaded}
 use Rattle.run_model.specs.declared.job.Job.{Job}
 use Rattle.run_model.specs.declared.thread.Turned.{Turned}
 use Rattle.run_model.specs.declared.thread.Turned.TheVariants.{Ended, Stopped}
@@ -24,3 +27,13 @@ HasEnded other = ⊥
 -- the last turn of each course ends it
 abbrev pub RunsEnd : Type 0
 RunsEnd = (job : Job) (told : Files) (c : Course) → IsRun job told c → HasEnded c.answer
+
+-- the load of a program is done or refused
+abbrev pub LoadComesTo : MemPlan → Files → List ℕ → Type 0
+LoadComesTo plan told name = ((l : Loaded) × IsProgramLoaded plan told name l) ⊎ ((r : LoadRefusal) × IsLoadRefused plan told name r)
+
+-- Where the load of its program is done or refused, a job has a course that ends, or a refusal.
+abbrev pub RunsComeTo : Type 0
+RunsComeTo =
+    (job : Job) (told : Files) → LoadComesTo job.plan told job.program
+    → ((c : Course) × IsRun job told c × HasEnded c.answer) ⊎ ((r : LoadRefusal) × IsStartRefused job told r)

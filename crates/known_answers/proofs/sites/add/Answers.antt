@@ -1,6 +1,0 @@
-use Rattle.std.proofs.lemmas.List.Elements.{All-push}
-use Rattle.elf_model.specs.Sound.{IsSound}
-use Rattle.known_answers.proofs.sites.add.Goals as goal
-
-pub returns : goal.returns
-returns c = rw c.in_ok-push.ensures (All-push (λ j. IsSound j.object) c.args.joining.now _ c.requires.all c.requires.sound)

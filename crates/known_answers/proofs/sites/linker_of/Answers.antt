@@ -1,5 +1,0 @@
-use Rattle.known_answers.proofs.SiteObjects.{ready_by}
-use Rattle.known_answers.proofs.sites.linker_of.Goals as goal
-
-pub returns-clause-ready : goal.returns-clause-ready
-returns-clause-ready c = ready_by _ c.requires.empty c.requires.tables c.requires.few
