@@ -6,7 +6,8 @@
     tools/trust.py --check    is done with status 1 where docs/TRUST.md has another list, or a file lies in the wrong folder
 
 A file of definitions is reached where the contract of `top` names one of its words, or a file that is reached imports it.
-What isn't reached serves contracts inside the program alone, and lies in the folder specs/parts/ of its crate."""
+The file specs/Numbers.antt of a crate, which its law `numbers` proves of the constants, counts as reached. What isn't
+reached serves contracts inside the program alone, and lies in the folder specs/parts/ of its crate."""
 
 import os
 import re
@@ -59,12 +60,14 @@ def imports(text, known):
 
 
 def reached(known):
-    """The files that the contract of `top` reaches."""
+    """The files that the contract of `top` reaches, and those that pin the constants of such files."""
     text = text_of(TOP)
     contract = text[text.index("pub fn top<") :]
     contract = contract[: contract.index("\n{")]
     named = lambda words: not words or any(re.search(rf"(?<![\w.]){re.escape(it)}(?!\w)", contract) for it in words)
     todo = [path for path, words in imports(text, known) if named(words)]
+    pinned = [f"crates/{crate}/specs/Numbers.antt" for crate in known]
+    todo += [path for path in pinned if os.path.isfile(os.path.join(ROOT, path))]
     found = set()
     while todo:
         path = todo.pop()

@@ -109,13 +109,10 @@ fn half_with_kind(word: u32, kind: u8) -> Option<Op>
 fn half_class_of(word: u32) -> Option<Op>
     ensures { result ≡ half_class_of word }
 {
-    let code = small_field(word, 5, 2);
-    if flag(word, 20) {
-        half_with_kind(word, code)
-    } else if code == 1 {
-        half_with_kind(word, 0)
-    } else {
-        None
+    match (flag(word, 20), small_field(word, 5, 2)) {
+        (true, kind) => half_with_kind(word, kind),
+        (false, 1) => half_with_kind(word, 0),
+        (false, _) => None,
     }
 }
 

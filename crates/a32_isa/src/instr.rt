@@ -2,7 +2,7 @@
 //! than its type, `decode` gives only those that a row of the instruction table has.
 
 /// An instruction.
-#[derive(Clone, Copy, Debug, PartialEq, Eq)]
+#[derive(Clone, Copy)]
 pub struct Instr {
     /// When it is obeyed, from 0 on: eq ne cs cc mi pl vs vc hi ls ge lt gt le al.
     pub cond: u8,
@@ -11,7 +11,7 @@ pub struct Instr {
 }
 
 /// What an instruction does.
-#[derive(Clone, Copy, Debug, PartialEq, Eq)]
+#[derive(Clone, Copy)]
 pub enum Op {
     /// A data operation, from 0 on: and eor sub rsb add adc sbc rsc tst teq cmp cmn orr mov bic mvn. Of
     /// register `n` and the operand `arg` into register `d`; with `s` it sets the flags.
@@ -117,7 +117,7 @@ pub enum Op {
 }
 
 /// The second operand of a data operation. The kinds of shift are 0 lsl, 1 lsr, 2 asr, 3 ror.
-#[derive(Clone, Copy, Debug, PartialEq, Eq)]
+#[derive(Clone, Copy)]
 pub enum Arg {
     /// A byte, rotated right by twice `rot`.
     Imm { rot: u8, imm: u8 },
@@ -128,7 +128,7 @@ pub enum Arg {
 }
 
 /// The offset of a load or store of a word or byte.
-#[derive(Clone, Copy, Debug, PartialEq, Eq)]
+#[derive(Clone, Copy)]
 pub enum MemOff {
     /// In bytes, below 4,096.
     Imm(u16),
@@ -137,7 +137,7 @@ pub enum MemOff {
 }
 
 /// The offset of a load or store of a halfword or a signed byte.
-#[derive(Clone, Copy, Debug, PartialEq, Eq)]
+#[derive(Clone, Copy)]
 pub enum HalfOff {
     /// In bytes.
     Imm(u8),

@@ -18,10 +18,12 @@ pub fn one_word()
     ensures only { (v w : ℕ) (i : Instr) → IsInstruction v i → IsInstruction w i → v ≡ w }
 {}
 
-/// What is encoded decodes to the same instruction, and what is decoded encodes to the same word.
+/// What is encoded decodes to the same instruction, what is decoded encodes to the same word, and it is the
+/// instruction whose row has the word.
 pub fn round_trips()
     ensures instruction { (i : Instr) → IsInstr i → decode_of (word_of i) ≡ Some i }
     ensures word { (w : ℕ) → w < 2 ^ 32 → IfSome (decode_of w) (λ i. word_of i ≡ w) }
+    ensures row { (w : ℕ) → w < 2 ^ 32 → IfSome (decode_of w) (IsInstruction w) }
 {}
 
 /// A rotation gives a number exactly where a byte rotated so is the number, and that byte is the number

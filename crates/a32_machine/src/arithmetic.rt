@@ -8,7 +8,7 @@ ghost use Rattle.a32_machine.specs.Arithmetic as spec;
 use crate::shifter::bit_of;
 
 /// What a data operation gives: its value, and the flags C and V that go with it.
-#[derive(Clone, Copy, Debug, PartialEq, Eq)]
+#[derive(Clone, Copy, PartialEq, Eq)]
 pub struct Outcome {
     pub value: u32,
     pub carry: bool,

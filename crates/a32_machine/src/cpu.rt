@@ -1,7 +1,7 @@
 //! The registers and flags, and how a step ends.
 
 /// The registers and the flags. `r[15]` is the address of the next instruction, a multiple of 4.
-#[derive(Clone, Copy, Debug, PartialEq, Eq)]
+#[derive(Clone, Copy, PartialEq, Eq)]
 pub struct Cpu {
     pub r: [u32; 16],
     /// Negative: bit 31 of the last result that set the flags.
@@ -15,7 +15,7 @@ pub struct Cpu {
 }
 
 /// Why an instruction stops. It changes nothing then.
-#[derive(Clone, Copy, Debug, PartialEq, Eq)]
+#[derive(Clone, Copy, PartialEq, Eq)]
 pub enum StepStop {
     /// The lowest byte of a store that is watched.
     Stray(u32),
@@ -28,7 +28,7 @@ pub enum StepStop {
 }
 
 /// How a step ends.
-#[derive(Clone, Copy, Debug, PartialEq, Eq)]
+#[derive(Clone, Copy, PartialEq, Eq)]
 pub enum StepEnd {
     /// The next instruction can be obeyed.
     Next,

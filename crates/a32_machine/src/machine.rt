@@ -16,7 +16,7 @@ use crate::cpu::{Cpu, StepEnd, StepStop};
 use crate::data::{count_zeros, move_top, move_wide, process_data};
 use crate::landing::stop_of;
 use crate::multiple::{MultipleTransfer, registers_of, transfer_all};
-use crate::multiply::{multiply, multiply_add, multiply_long};
+use crate::multiply::{LongMultiplication, multiply, multiply_add, multiply_long};
 use crate::registers::{moved_on, reg, whole};
 use crate::transfer::{SingleTransfer, Size, half_offset, mem_offset, moved_by, transfer};
 use a32_isa::{Op, decode};
@@ -40,7 +40,17 @@ fn execute(op: &Op, cpu: &mut Cpu, guest: &mut Guest) -> StepEnd
             lo,
             s2,
             m,
-        } => multiply_long(kind, s, hi, lo, s2, m, cpu),
+        } => {
+            let long = LongMultiplication {
+                kind,
+                s,
+                hi,
+                lo,
+                s2,
+                m,
+            };
+            multiply_long(long, cpu)
+        }
         Op::Clz { d, m } => count_zeros(d, m, cpu),
         Op::Movw { d, imm16 } => move_wide(d, imm16, cpu),
         Op::Movt { d, imm16 } => move_top(d, imm16, cpu),

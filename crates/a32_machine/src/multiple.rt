@@ -85,7 +85,7 @@ fn land_all(cpu: &mut Cpu, loaded: Cpu) -> StepEnd
 }
 
 /// A transfer of several registers: which way, and where the words lie from the base.
-#[derive(Clone, Copy, Debug)]
+#[derive(Clone, Copy)]
 pub struct MultipleTransfer {
     pub load: bool,
     pub p: bool,

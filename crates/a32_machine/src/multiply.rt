@@ -71,15 +71,36 @@ fn long_result(kind: u8, a: u32, b: u32, held: u64) -> u64
     }
 }
 
+/// A multiplication into 64 bits, of `m` by `s2` into `hi` and `lo`. The kinds are those of `Op::Long`.
+#[derive(Clone, Copy)]
+pub struct LongMultiplication {
+    pub kind: u8,
+    /// Whether it sets the flags.
+    pub s: bool,
+    pub hi: u8,
+    pub lo: u8,
+    pub s2: u8,
+    pub m: u8,
+}
+
 /// `m` times `s2` in 64 bits, with what the registers hold added in the kinds 1 and 3.
 #[tactic(auto, unfolding(crate::specs::Multiplication::multiplied_long))]
-pub fn multiply_long(kind: u8, s: bool, hi: u8, lo: u8, s2: u8, m: u8, cpu: &mut Cpu) -> StepEnd
-    requires hi { hi < 16 }
-    requires lo { lo < 16 }
-    requires s2 { s2 < 16 }
-    requires m { m < 16 }
-    ensures { (mem : GuestMemory) → record { end_ = result; cpu = cpu.new; memory = mem } ≡ spec.multiplied_long kind s hi lo s2 m cpu.old mem }
+pub fn multiply_long(long: LongMultiplication, cpu: &mut Cpu) -> StepEnd
+    requires hi { long.hi < 16 }
+    requires lo { long.lo < 16 }
+    requires s2 { long.s2 < 16 }
+    requires m { long.m < 16 }
+    ensures { (mem : GuestMemory) → record { end_ = result; cpu = cpu.new; memory = mem }
+        ≡ spec.multiplied_long long.kind long.s long.hi long.lo long.s2 long.m cpu.old mem }
 {
+    let LongMultiplication {
+        kind,
+        s,
+        hi,
+        lo,
+        s2,
+        m,
+    } = long;
     let held = reg(cpu, hi) as u64 * 0x1_0000_0000 + reg(cpu, lo) as u64;
     let product = long_result(kind, reg(cpu, m), reg(cpu, s2), held);
     let high = (product / 0x1_0000_0000) as u32;

@@ -11,7 +11,7 @@ use crate::registers::reg;
 use a32_isa::Arg;
 
 /// A value, and the last bit that was shifted out of it.
-#[derive(Clone, Copy, Debug, PartialEq, Eq)]
+#[derive(Clone, Copy, PartialEq, Eq)]
 pub struct Shifted {
     pub value: u32,
     pub carry: bool,

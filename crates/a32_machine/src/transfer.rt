@@ -14,7 +14,7 @@ use a32_isa::{HalfOff, MemOff};
 use guest_mem::{Access, Guest};
 
 /// How many bytes are transferred.
-#[derive(Clone, Copy, Debug, PartialEq, Eq)]
+#[derive(Clone, Copy, PartialEq, Eq)]
 pub enum Size {
     Byte,
     Half,
@@ -23,7 +23,7 @@ pub enum Size {
 
 /// A transfer of a register: which way, of what, and how the base makes the address. `moved` is the base moved by the
 /// offset.
-#[derive(Clone, Copy, Debug)]
+#[derive(Clone, Copy)]
 pub struct SingleTransfer {
     pub load: bool,
     pub signed: bool,

@@ -65,7 +65,7 @@ module _ (limit t : ℕ) (begin : Cpu) (c : BoundCall) (f : Func) (begins : Begi
   pub record Making (n : ℕ) (s : State) : Type 0 where
     pub at : InCall begin c t n s
     pub made : (thread : Thread) → thread_at s.threads t ≡ Some thread → IsMade thread.calls n
-    pub place : code_at s.loaded.process s.loaded.maps c.function ≡ Some f
+    pub place : code_at s.loaded.modules.process s.loaded.modules.maps c.function ≡ Some f
 
   abbrev HasArrival : List Event → Type 0
   HasArrival events = (step : ℕ) × Has events (Arrive step t f)
@@ -82,12 +82,12 @@ module _ (limit t : ℕ) (begin : Cpu) (c : BoundCall) (f : Func) (begins : Begi
       let step : step_of live.thread.cpu s.loaded.memory ≡ went_on cpu s.loaded.memory =
       ap (λ x. step_of x s.loaded.memory) live.is ∙ call_step begin c s.loaded.memory n begins h.at.holds (omega arith) in
       let moved : Thread = record live.thread { cpu = cpu } in
-      let there = get_or-set_same s.threads t (Some (with_calls s.loaded.process s.loaded.maps moved)) None (thread_inside s.threads t live.thread live.at) in
-      let made : IsMade (with_calls s.loaded.process s.loaded.maps moved).calls (suc n) = made_next live.thread.calls (call_begun s.loaded.process s.loaded.maps cpu) n l (h.made live.thread live.at) in
+      let there = get_or-set_same s.threads t (Some (with_calls s.loaded.modules.process s.loaded.modules.maps moved)) None (thread_inside s.threads t live.thread live.at) in
+      let made : IsMade (with_calls s.loaded.modules.process s.loaded.modules.maps moved).calls (suc n) = made_next live.thread.calls (call_begun s.loaded.modules.process s.loaded.modules.maps cpu) n l (h.made live.thread live.at) in
       rw (went_is limit s t live.thread cpu live.at early step)
       (record {
         at = record { cpu = ap (option_map (λ (thread : Thread). thread.cpu)) there; holds = h.at.holds };
-        made = λ thread at. subst (λ (x : Thread). IsMade x.calls (suc n)) (one_value _ (with_calls s.loaded.process s.loaded.maps moved) thread there at) made;
+        made = λ thread at. subst (λ (x : Thread). IsMade x.calls (suc n)) (one_value _ (with_calls s.loaded.modules.process s.loaded.modules.maps moved) thread there at) made;
         place = h.place;
       })
 
@@ -103,9 +103,9 @@ module _ (limit t : ℕ) (begin : Cpu) (c : BoundCall) (f : Func) (begins : Begi
       let step : step_of live.thread.cpu s.loaded.memory ≡ went_on cpu s.loaded.memory =
       ap (λ x. step_of x s.loaded.memory) live.is ∙ call_step begin c s.loaded.memory 3 begins h.at.holds (omega arith) in
       let at_function : pc_of cpu ≡ c.function = standing-pc begin s.loaded.memory begins.registers c.function (slot_of c) c.function_got in
-      let place : code_at s.loaded.process s.loaded.maps (pc_of cpu) ≡ Some f = ap (code_at s.loaded.process s.loaded.maps) at_function ∙ h.place in
+      let place : code_at s.loaded.modules.process s.loaded.modules.maps (pc_of cpu) ≡ Some f = ap (code_at s.loaded.modules.process s.loaded.modules.maps) at_function ∙ h.place in
       rw (went_is limit s t live.thread cpu live.at early step)
-      (arrival_made live.thread.calls (call_begun s.loaded.process s.loaded.maps cpu) (suc s.steps) t _ f place (h.made live.thread live.at))
+      (arrival_made live.thread.calls (call_begun s.loaded.modules.process s.loaded.modules.maps cpu) (suc s.steps) t _ f place (h.made live.thread live.at))
 
   -- ---- a turn of another
 

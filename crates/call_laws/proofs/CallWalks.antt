@@ -98,7 +98,7 @@ own_turn-by limit s t n begin c false early b h l =
     let live = thread_of (thread_at s.threads t) (cpu_after begin c n) h.cpu in
     let cpu : Cpu = cpu_after begin c (suc n) in
     let step : step_of live.thread.cpu s.loaded.memory ≡ went_on cpu s.loaded.memory = ap (λ x. step_of x s.loaded.memory) live.is ∙ call_step begin c s.loaded.memory n b h.holds l in
-    let there = get_or-set_same s.threads t (Some (with_calls s.loaded.process s.loaded.maps (record live.thread { cpu = cpu }))) None (thread_inside s.threads t live.thread live.at) in
+    let there = get_or-set_same s.threads t (Some (with_calls s.loaded.modules.process s.loaded.modules.maps (record live.thread { cpu = cpu }))) None (thread_inside s.threads t live.thread live.at) in
     rw (went_is limit s t live.thread cpu live.at early step) (record { cpu = ap (option_map (λ (thread : Thread). thread.cpu)) there; holds = h.holds })
 
 pub own_turn : (limit : ℕ) (s : State) (t n : ℕ) (begin : Cpu) (c : BoundCall) → Begins begin c → InCall begin c t n s → n < 4

@@ -28,30 +28,30 @@ use Rattle.call_laws.proofs.EntryWords.{entry_below, entry_watched, word_fetched
 use Rattle.call_laws.proofs.SlotPairs.{code_aligned, code_of, code_read, function, function_is, got_for, got_read, leads_back, offset_is, slot_below, slot_watched}
 
 -- the pair of slot k
-pub slot_listed : (l : Loaded) (m k : ℕ) (o : Object) (r : Rel) → object_at l.process m ≡ Some o → slot_of o k ≡ Some r
-    → slot_pair_of l.process l.maps m k ≡ Some (slot_pair_at (linkage_of l.process) (placing_of l.process l.maps empty) m o r)
+pub slot_listed : (l : Loaded) (m k : ℕ) (o : Object) (r : Rel) → object_at l.modules.process m ≡ Some o → slot_of o k ≡ Some r
+    → slot_pair_of l.modules.process l.modules.maps m k ≡ Some (slot_pair_at (linkage_of l.modules.process) (placing_of l.modules.process l.modules.maps empty) m o r)
 slot_listed l m k o r live slot_is =
-    let pairs = slot_pairs (linkage_of l.process) (placing_of l.process l.maps empty) m in
-    let at = slot_pair_at (linkage_of l.process) (placing_of l.process l.maps empty) m o in
+    let pairs = slot_pairs (linkage_of l.modules.process) (placing_of l.modules.process l.modules.maps empty) m in
+    let at = slot_pair_at (linkage_of l.modules.process) (placing_of l.modules.process l.modules.maps empty) m o in
     ap (λ (y : Option Object). slice_get (option_map_or pairs y []) k) live ∙ slice_get-map at o.jmprels k ∙ ap (option_map at) slot_is
 
 -- a word among watched bytes
 stays_at : (m : GuestMemory) (a n j : ℕ) → ((i : ℕ) → i < n → is_watched m (a + i) ≡ true) → j + 4 ≤ n → (i : ℕ) → i < 4 → is_watched m (a + j + i) ≡ true
 stays_at m a n j watched room i lt = let at : a + j + i ≡ a + (j + i) = omega arith in ap (is_watched m) at ∙ watched (j + i) (omega arith)
 
-module _ (l : Loaded) (h : IsConsistent l) (small : l.plan.memory < 2 ^ 32) (m v k : ℕ) (o : Object) (live : object_at l.process m ≡ Some o)
+module _ (l : Loaded) (h : IsConsistent l) (small : l.modules.plan.memory < 2 ^ 32) (m v k : ℕ) (o : Object) (live : object_at l.modules.process m ≡ Some o)
     (entry : IsPltEntry o v k) (clear : IsClear o v k) where
   abbrev r : Rel
   r = entry.rel
 
   abbrev p : ℕ
-  p = placed (map_at l.maps m) v
+  p = placed (map_at l.modules.maps m) v
 
   abbrev pair : SlotPair
   pair = record {
-    addr = placed (map_at l.maps m) r.site;
-    code = code_of (placing_of l.process l.maps l.addrs) (function l h small m k o r live entry.is_slot entry.near);
-    got = got_for (placing_of l.process l.maps l.addrs) (function l h small m k o r live entry.is_slot entry.near);
+    addr = placed (map_at l.modules.maps m) r.site;
+    code = code_of (placing_of l.modules.process l.modules.maps l.modules.addrs) (function l h small m k o r live entry.is_slot entry.near);
+    got = got_for (placing_of l.modules.process l.modules.maps l.modules.addrs) (function l h small m k o r live entry.is_slot entry.near);
   }
 
   stands : CallStands o v r.site
@@ -65,10 +65,10 @@ module _ (l : Loaded) (h : IsConsistent l) (small : l.plan.memory < 2 ^ 32) (m v
       ∙ word_fetched l h m v k o live entry clear 0 0xe59fc008 (omega arith) (omega arith) (ap (file_word o.segments) link ∙ stands.first)
 
   abbrev x : ℕ
-  x = placed (map_at l.maps m) r.site
+  x = placed (map_at l.modules.maps m) r.site
 
   abbrev got : ℕ
-  got = placed (map_at l.maps m) o.got
+  got = placed (map_at l.modules.maps m) o.got
 
   leads : plus got (minus x got) ≡ x
   leads = leads_back l h small m k o r live entry.is_slot entry.near
@@ -113,16 +113,16 @@ module _ (l : Loaded) (h : IsConsistent l) (small : l.plan.memory < 2 ^ 32) (m v
     watched = entry_stays;
   }
 
-  pair_is : slot_pair_of l.process l.maps m k ≡ Some pair
+  pair_is : slot_pair_of l.modules.process l.modules.maps m k ≡ Some pair
   pair_is =
       slot_listed l m k o r live entry.is_slot
       ∙ ap (λ y. Some (record {
-        addr = placed (map_at l.maps m) r.site;
-        code = code_of (placing_of l.process l.maps l.addrs) (function_or_none y);
-        got = got_for (placing_of l.process l.maps l.addrs) (function_or_none y);
+        addr = placed (map_at l.modules.maps m) r.site;
+        code = code_of (placing_of l.modules.process l.modules.maps l.modules.addrs) (function_or_none y);
+        got = got_for (placing_of l.modules.process l.modules.maps l.modules.addrs) (function_or_none y);
       })) (function_is l h small m k o r live entry.is_slot entry.near)
 
-  held : (slot : SlotPair) → slot_pair_of l.process l.maps m k ≡ Some slot → HoldsEntry l.memory p got slot
+  held : (slot : SlotPair) → slot_pair_of l.modules.process l.modules.maps m k ≡ Some slot → HoldsEntry l.memory p got slot
   held slot is =
       let both : Some pair ≡ Some slot = sym pair_is ∙ is in
       let same : pair ≡ slot = cc in

@@ -54,10 +54,10 @@ found_pair {A} {B} p (x ∷ xs) (y ∷ ys) s is =
 -- a placed segment of a live module in which an address lies
 pub record IsCodedBy (l : Loaded) (a : ℕ) (f : Func) : Type 0 where
   pub object' : Object
-  pub live : object_at l.process f.module ≡ Some object'
+  pub live : object_at l.modules.process f.module ≡ Some object'
   pub segment : Segment
   pub entry : MapEntry
-  pub pair : IsPaired object'.segments (map_at l.maps f.module) segment entry
+  pub pair : IsPaired object'.segments (map_at l.modules.maps f.module) segment entry
   pub executable : has_flag segment.flags PF_X ≡ true
   pub above : entry.addr ≤ a
   pub below : a < entry.addr + entry.memsz
@@ -94,10 +94,10 @@ among maps a m (None ∷ places) f is = among_later maps a m None places f (amon
 among maps a m (Some live ∷ places) f is =
     first_or_later maps a m live places f (code_in a m live.object (map_at maps m)) refl is (λ rest. among maps a (suc m) places f rest)
 
-in_module : (l : Loaded) (a m : ℕ) (f : Func) (o : Object) → object_at l.process m ≡ Some o → code_in a m o (map_at l.maps m) ≡ Some f → IsCodedBy l a f
+in_module : (l : Loaded) (a m : ℕ) (f : Func) (o : Object) → object_at l.modules.process m ≡ Some o → code_in a m o (map_at l.modules.maps m) ≡ Some f → IsCodedBy l a f
 in_module l a m f o live is =
-    let s = from_map (link_of a m) (find (is_code_of a) (zip o.segments (map_at l.maps m))) f is in
-    let both = found_pair (is_code_of a) o.segments (map_at l.maps m) s.0 s.1 in
+    let s = from_map (link_of a m) (find (is_code_of a) (zip o.segments (map_at l.modules.maps m))) f is in
+    let both = found_pair (is_code_of a) o.segments (map_at l.modules.maps m) s.0 s.1 in
     let parts = and_parts (has_flag (s.0).0.flags PF_X) (is_in (s.0).1.addr (s.0).1.memsz a) both.1 in
     let range = inside (s.0).1.addr (s.0).1.memsz a parts.1 in
     subst (IsCodedBy l a) s.2 (record {
@@ -112,15 +112,15 @@ in_module l a m f o live is =
       value' = refl;
     })
 
-pub coded_by : (l : Loaded) (a : ℕ) (f : Func) → code_at l.process l.maps a ≡ Some f → IsCodedBy l a f
+pub coded_by : (l : Loaded) (a : ℕ) (f : Func) → code_at l.modules.process l.modules.maps a ≡ Some f → IsCodedBy l a f
 coded_by l a f is =
-    let at = among l.maps a 0 l.process.modules f is in
+    let at = among l.modules.maps a 0 l.modules.process.modules f is in
     let zero' : 0 + at.index ≡ at.index = omega arith in
-    let live : object_at l.process at.index ≡ Some at.live.object =
+    let live : object_at l.modules.process at.index ≡ Some at.live.object =
     ap (λ (x : Option (Option Live)). option_map (λ (y : Live). y.object) (option_and_then (λ (place : Option Live). place) x)) at.there in
-    in_module l a at.index f at.live.object live (subst (λ (n : ℕ). code_in a n at.live.object (map_at l.maps n) ≡ Some f) zero' at.coded)
+    in_module l a at.index f at.live.object live (subst (λ (n : ℕ). code_in a n at.live.object (map_at l.modules.maps n) ≡ Some f) zero' at.coded)
 
-pub placed_at_code : (l : Loaded) (h : IsConsistent l) (a : ℕ) (f : Func) → IsCodedBy l a f → placed (map_at l.maps f.module) f.value ≡ a
+pub placed_at_code : (l : Loaded) (h : IsConsistent l) (a : ℕ) (f : Func) → IsCodedBy l a f → placed (map_at l.modules.maps f.module) f.value ≡ a
 placed_at_code l h a f by =
-    ap (placed (map_at l.maps f.module)) by.value'
+    ap (placed (map_at l.modules.maps f.module)) by.value'
     ∙ placed_back l h f.module by.pair.index by.object' by.segment by.entry by.live by.pair.left by.pair.right a by.above by.below

@@ -29,12 +29,12 @@ off_entry : (v i : ℕ) (q : Site) → i < 20 → RangesApart (entry_range v) q 
 off_entry v i q lt (inl before) = inl (omega arith)
 off_entry v i q lt (inr after) = inr (omega arith)
 
-module _ (l : Loaded) (h : IsConsistent l) (m v k : ℕ) (o : Object) (live : object_at l.process m ≡ Some o) (entry : IsPltEntry o v k) (clear : IsClear o v k) where
+module _ (l : Loaded) (h : IsConsistent l) (m v k : ℕ) (o : Object) (live : object_at l.modules.process m ≡ Some o) (entry : IsPltEntry o v k) (clear : IsClear o v k) where
   c : InCode o.segments v 20
   c = in_code o.segments v 20 entry.code
 
   abbrev p : ℕ
-  p = placed (map_at l.maps m) v
+  p = placed (map_at l.modules.maps m) v
 
   from : c.segment.vaddr ≤ v
   from = c.begin
@@ -55,13 +55,13 @@ module _ (l : Loaded) (h : IsConsistent l) (m v k : ℕ) (o : Object) (live : ob
   file_there : (i : ℕ) → i < 20 → byte_at l.memory (p + i) ≡ file_byte o.segments (v + i)
   file_there i lt =
       byte_there l h m c.place o c.segment live c.held v i from (omega (arith, to)) (entry_watched i lt)
-      ∙ others_stay (linkage_of l.process) (placing_of l.process l.maps l.addrs) m o (v + i)
+      ∙ others_stay (linkage_of l.modules.process) (placing_of l.modules.process l.modules.maps l.modules.addrs) m o (v + i)
       (All-weaker (RangesApart (entry_range v)) (IsOffSite (v + i)) (λ q apart. off_entry v i q lt apart) (filled_ranges o) clear.entry)
 
   place_aligned : p % 4 ≡ 0
   place_aligned = aligned_there l h m c.place o c.segment live c.held v from (omega (arith, to)) entry.aligned
 
-  pub entry_below : l.plan.memory < 2 ^ 32 → p + 20 < 2 ^ 32
+  pub entry_below : l.modules.plan.memory < 2 ^ 32 → p + 20 < 2 ^ 32
   entry_below small = ends_there l h m c.place o c.segment live c.held v 20 from (omega (arith, to)) to small
 
   word_bytes : (j i : ℕ) → j + 4 ≤ 20 → i < 4 → byte_at l.memory (p + j + i) ≡ file_byte o.segments (v + j + i)

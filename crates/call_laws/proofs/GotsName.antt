@@ -19,7 +19,7 @@ module _ (l : Loaded) (h : IsConsistent l) where
   range_of : (m a : ℕ) → LiesIn l m a → Held
   range_of m a lies = record { owner = m; start = lies.entry.addr; len = lies.entry.memsz }
 
-  held_range : (m a : ℕ) (lies : LiesIn l m a) → Contains l.held (range_of m a lies)
+  held_range : (m a : ℕ) (lies : LiesIn l m a) → Contains l.modules.held (range_of m a lies)
   unfolding range_of
   held_range m a lies = (h.ranges.held' (range_of m a lies)).1 (record { entry = lies.entry; listed = lies.listed; start' = refl; len' = refl })
 
@@ -27,7 +27,7 @@ module _ (l : Loaded) (h : IsConsistent l) where
   unfolding range_of
   not_two m n a here there other =
       let apart =
-      apart_two l.held (range_of m a here) (range_of n a there) h.ranges.apart (held_range m a here) (held_range n a there) (λ is. other (ap (λ (r : Held). r.owner) is)) in
+      apart_two l.modules.held (range_of m a here) (range_of n a there) h.ranges.apart (held_range m a here) (held_range n a there) (λ is. other (ap (λ (r : Held). r.owner) is)) in
       let above : here.entry.addr ≤ a = here.above in
       let below : a < here.entry.addr + here.entry.memsz = here.below in
       let from : there.entry.addr ≤ a = there.above in
@@ -45,7 +45,7 @@ module _ (l : Loaded) (h : IsConsistent l) where
         ]
       ]
 
-  got_lies : (m : ℕ) (o : Object) → object_at l.process m ≡ Some o → LiesIn l m (placed (map_at l.maps m) o.got)
+  got_lies : (m : ℕ) (o : Object) → object_at l.modules.process m ≡ Some o → LiesIn l m (placed (map_at l.modules.maps m) o.got)
   got_lies m o live =
       let got = got_spanned o (h.modules'.standing m o live).sound in
       let from : got.segment.vaddr ≤ o.got = got.from in
@@ -54,4 +54,4 @@ module _ (l : Loaded) (h : IsConsistent l) where
 
 pub gots_name_modules_lem : GotsNameModules
 gots_name_modules_lem l m n o q h live other same =
-    one_owner l h m n (placed (map_at l.maps m) o.got) (got_lies l h m o live) (subst (λ (a : ℕ). LiesIn l n a) (sym same) (got_lies l h n q other))
+    one_owner l h m n (placed (map_at l.modules.maps m) o.got) (got_lies l h m o live) (subst (λ (a : ℕ). LiesIn l n a) (sym same) (got_lies l h n q other))

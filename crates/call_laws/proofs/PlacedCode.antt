@@ -26,55 +26,55 @@ use Rattle.call_laws.proofs.Alignment.{unit_is_fourfold, congruent_by_four, plac
 -- an address lies in a placed segment of module m
 pub record LiesIn (l : Loaded) (m a : ℕ) : Type 0 where
   pub entry : MapEntry
-  pub listed : Contains (map_at l.maps m) entry
+  pub listed : Contains (map_at l.modules.maps m) entry
   pub above : entry.addr ≤ a
   pub below : a < entry.addr + entry.memsz
 
 -- link address v of module m is placed by entry k of the load map
 pub record LiesBy (l : Loaded) (m k v : ℕ) : Type 0 where
   pub entry : MapEntry
-  pub at : slice_get (map_at l.maps m) k ≡ Some entry
-  pub above : entry.addr ≤ placed (map_at l.maps m) v
-  pub below : placed (map_at l.maps m) v < entry.addr + entry.memsz
-  pub back : entry.vaddr + (placed (map_at l.maps m) v - entry.addr) ≡ v
+  pub at : slice_get (map_at l.modules.maps m) k ≡ Some entry
+  pub above : entry.addr ≤ placed (map_at l.modules.maps m) v
+  pub below : placed (map_at l.modules.maps m) v < entry.addr + entry.memsz
+  pub back : entry.vaddr + (placed (map_at l.modules.maps m) v - entry.addr) ≡ v
 
 -- segment k of live module m
-module _ (l : Loaded) (h : IsConsistent l) (m k : ℕ) (o : Object) (s : Segment) (live : object_at l.process m ≡ Some o) (held : slice_get o.segments k ≡ Some s) where
-  standing : IsStanding l m o
+module _ (l : Loaded) (h : IsConsistent l) (m k : ℕ) (o : Object) (s : Segment) (live : object_at l.modules.process m ≡ Some o) (held : slice_get o.segments k ≡ Some s) where
+  standing : IsStanding l.modules m o
   standing = h.modules'.standing m o live
 
   abbrev es : List MapEntry
-  es = map_at l.maps m
+  es = map_at l.modules.maps m
 
-  found : (e : MapEntry) × (slice_get es k ≡ Some e) × IsEntryOf l.plan s e
-  found = zip_at (IsEntryOf l.plan) o.segments es k s standing.mapped held
+  found : (e : MapEntry) × (slice_get es k ≡ Some e) × IsEntryOf l.modules.plan s e
+  found = zip_at (IsEntryOf l.modules.plan) o.segments es k s standing.mapped held
 
   abbrev e : MapEntry
   e = found.0
 
-  abbrev of_segment : IsEntryOf l.plan s e
+  abbrev of_segment : IsEntryOf l.modules.plan s e
   of_segment = found.2
 
-  placed_there : (v : ℕ) → s.vaddr ≤ v → v < s.vaddr + s.memsz → placed (map_at l.maps m) v ≡ v - s.vaddr + e.addr
+  placed_there : (v : ℕ) → s.vaddr ≤ v → v < s.vaddr + s.memsz → placed (map_at l.modules.maps m) v ≡ v - s.vaddr + e.addr
   placed_there v from to =
       let link : e.vaddr ≡ s.vaddr = of_segment.vaddr' in
       let long : e.memsz ≡ s.memsz = of_segment.memsz' in
       let holds : is_held_by v e ≡ true = is_inside e.vaddr e.memsz v (omega arith) (omega arith) in
-      ap (λ a. unwrap_or a 0) (whole es k v e (linked_apart l.plan o es standing.sound standing.mapped) found.1 holds)
+      ap (λ a. unwrap_or a 0) (whole es k v e (linked_apart l.modules.plan o es standing.sound standing.mapped) found.1 holds)
       ∙ ap (λ n. v - n + e.addr) link
 
   -- a byte behind one that the segment holds
-  place_is : (v i : ℕ) → s.vaddr ≤ v → v + i < s.vaddr + s.memsz → placed (map_at l.maps m) v + i ≡ e.addr + (v + i - s.vaddr)
+  place_is : (v i : ℕ) → s.vaddr ≤ v → v + i < s.vaddr + s.memsz → placed (map_at l.modules.maps m) v + i ≡ e.addr + (v + i - s.vaddr)
   place_is v i from to = let at = placed_there v from (omega arith) in omega arith
 
-  pub kind_there : (v i : ℕ) → s.vaddr ≤ v → v + i < s.vaddr + s.memsz → kind_at l.memory (placed (map_at l.maps m) v + i) ≡ Some (kind_of_segment s)
+  pub kind_there : (v i : ℕ) → s.vaddr ≤ v → v + i < s.vaddr + s.memsz → kind_at l.memory (placed (map_at l.modules.maps m) v + i) ≡ Some (kind_of_segment s)
   kind_there v i from to =
       let at = place_is v i from to in
       let long : e.memsz ≡ s.memsz = of_segment.memsz' in
-      h.laid_out.segments m s e (record { object' = o; live = live; k = k; segment = held; entry = found.1 }) (placed (map_at l.maps m) v + i) (omega arith) (omega arith)
+      h.laid_out.segments m s e (record { object' = o; live = live; k = k; segment = held; entry = found.1 }) (placed (map_at l.modules.maps m) v + i) (omega arith) (omega arith)
 
-  pub byte_there : (v i : ℕ) → s.vaddr ≤ v → v + i < s.vaddr + s.memsz → is_watched l.memory (placed (map_at l.maps m) v + i) ≡ true
-      → byte_at l.memory (placed (map_at l.maps m) v + i) ≡ image_of (linkage_of l.process) (placing_of l.process l.maps l.addrs) m o (v + i)
+  pub byte_there : (v i : ℕ) → s.vaddr ≤ v → v + i < s.vaddr + s.memsz → is_watched l.memory (placed (map_at l.modules.maps m) v + i) ≡ true
+      → byte_at l.memory (placed (map_at l.modules.maps m) v + i) ≡ image_of (linkage_of l.modules.process) (placing_of l.modules.process l.modules.maps l.modules.addrs) m o (v + i)
   byte_there v i from to watched =
       let at = place_is v i from to in
       let link : e.vaddr ≡ s.vaddr = of_segment.vaddr' in
@@ -83,17 +83,17 @@ module _ (l : Loaded) (h : IsConsistent l) (m k : ℕ) (o : Object) (s : Segment
       let back : e.vaddr + n ≡ v + i = omega arith in
       ap (byte_at l.memory) at
       ∙ h.images.bytes m o k e live found.1 n (omega arith) (ap (is_watched l.memory) (sym at) ∙ watched)
-      ∙ ap (image_of (linkage_of l.process) (placing_of l.process l.maps l.addrs) m o) back
+      ∙ ap (image_of (linkage_of l.modules.process) (placing_of l.modules.process l.modules.maps l.modules.addrs) m o) back
 
-  pub ends_there : (v n : ℕ) → s.vaddr ≤ v → v < s.vaddr + s.memsz → v + n ≤ s.vaddr + s.memsz → l.plan.memory < 2 ^ 32
-      → placed (map_at l.maps m) v + n < 2 ^ 32
+  pub ends_there : (v n : ℕ) → s.vaddr ≤ v → v < s.vaddr + s.memsz → v + n ≤ s.vaddr + s.memsz → l.modules.plan.memory < 2 ^ 32
+      → placed (map_at l.modules.maps m) v + n < 2 ^ 32
   ends_there v n from to end small =
       let at = placed_there v from to in
-      let below : e.addr + e.memsz ≤ high_of l.plan = of_segment.below in
+      let below : e.addr + e.memsz ≤ high_of l.modules.plan = of_segment.below in
       let long : e.memsz ≡ s.memsz = of_segment.memsz' in
       omega arith
 
-  pub aligned_there : (v : ℕ) → s.vaddr ≤ v → v < s.vaddr + s.memsz → v % 4 ≡ 0 → placed (map_at l.maps m) v % 4 ≡ 0
+  pub aligned_there : (v : ℕ) → s.vaddr ≤ v → v < s.vaddr + s.memsz → v % 4 ≡ 0 → placed (map_at l.modules.maps m) v % 4 ≡ 0
   aligned_there v from to aligned =
       let at = placed_there v from to in
       let four = congruent_by_four e.addr s.vaddr _ (unit_is_fourfold s.align (all_at IsSized o.segments k s standing.sound.sized held).aligned) of_segment.congruent in
@@ -101,7 +101,7 @@ module _ (l : Loaded) (h : IsConsistent l) (m k : ℕ) (o : Object) (s : Segment
 
   -- two addresses in one segment are as far from each other as they were
   pub apart_there : (v w : ℕ) → s.vaddr ≤ v → v < s.vaddr + s.memsz → s.vaddr ≤ w → w < s.vaddr + s.memsz
-      → placed (map_at l.maps m) v + w ≡ placed (map_at l.maps m) w + v
+      → placed (map_at l.modules.maps m) v + w ≡ placed (map_at l.modules.maps m) w + v
   apart_there v w from to from' to' =
       let at = placed_there v from to in
       let at' = placed_there w from' to' in
@@ -115,21 +115,21 @@ module _ (l : Loaded) (h : IsConsistent l) (m k : ℕ) (o : Object) (s : Segment
       record { entry = e; at = found.1; above = omega arith; below = omega arith; back = omega arith }
 
   -- in the placed range of its segment
-  pub lies_there : (v : ℕ) → s.vaddr ≤ v → v < s.vaddr + s.memsz → LiesIn l m (placed (map_at l.maps m) v)
+  pub lies_there : (v : ℕ) → s.vaddr ≤ v → v < s.vaddr + s.memsz → LiesIn l m (placed (map_at l.modules.maps m) v)
   lies_there v from to =
       let by = lies_by v from to in
       record { entry = by.entry; listed = contains_at es k by.entry by.at; above = by.above; below = by.below }
 
   -- the link address that is placed at an address
-  there_back : (a : ℕ) → e.addr ≤ a → a < e.addr + e.memsz → placed (map_at l.maps m) (e.vaddr + (a - e.addr)) ≡ a
+  there_back : (a : ℕ) → e.addr ≤ a → a < e.addr + e.memsz → placed (map_at l.modules.maps m) (e.vaddr + (a - e.addr)) ≡ a
   there_back a above below =
       let link : e.vaddr ≡ s.vaddr = of_segment.vaddr' in
       let long : e.memsz ≡ s.memsz = of_segment.memsz' in
       placed_there (e.vaddr + (a - e.addr)) (omega arith) (omega arith) ∙ omega arith
 
-pub placed_back : (l : Loaded) (h : IsConsistent l) (m k : ℕ) (o : Object) (s : Segment) (d : MapEntry) (live : object_at l.process m ≡ Some o) (held : slice_get o.segments k ≡ Some s)
-    → slice_get (map_at l.maps m) k ≡ Some d → (a : ℕ) → d.addr ≤ a → a < d.addr + d.memsz → placed (map_at l.maps m) (d.vaddr + (a - d.addr)) ≡ a
+pub placed_back : (l : Loaded) (h : IsConsistent l) (m k : ℕ) (o : Object) (s : Segment) (d : MapEntry) (live : object_at l.modules.process m ≡ Some o) (held : slice_get o.segments k ≡ Some s)
+    → slice_get (map_at l.modules.maps m) k ≡ Some d → (a : ℕ) → d.addr ≤ a → a < d.addr + d.memsz → placed (map_at l.modules.maps m) (d.vaddr + (a - d.addr)) ≡ a
 placed_back l h m k o s d live held at a above below =
     let both : Some (e l h m k o s live held) ≡ Some d = sym (found l h m k o s live held).1 ∙ at in
     let same : e l h m k o s live held ≡ d = cc in
-    subst (λ (x : MapEntry). x.addr ≤ a → a < x.addr + x.memsz → placed (map_at l.maps m) (x.vaddr + (a - x.addr)) ≡ a) same (there_back l h m k o s live held a) above below
+    subst (λ (x : MapEntry). x.addr ≤ a → a < x.addr + x.memsz → placed (map_at l.modules.maps m) (x.vaddr + (a - x.addr)) ≡ a) same (there_back l h m k o s live held a) above below

@@ -103,9 +103,9 @@ one_entry es i j a d e apart p q low high from to =
     meets x y (inl before) low high from to = absurd (omega arith)
     meets x y (inr after) low high from to = absurd (omega arith)
 
-module _ (l : Loaded) (h : IsConsistent l) (f : Func) (o : Object) (live : object_at l.process f.module ≡ Some o) (executable : is_executable_in o.segments f.value ≡ true) where
+module _ (l : Loaded) (h : IsConsistent l) (f : Func) (o : Object) (live : object_at l.modules.process f.module ≡ Some o) (executable : is_executable_in o.segments f.value ≡ true) where
   abbrev a : ℕ
-  a = placed (map_at l.maps f.module) f.value
+  a = placed (map_at l.modules.maps f.module) f.value
 
   one : (k : ℕ) × (s : Segment) × ((slice_get o.segments k ≡ Some s) × ((has_flag s.flags PF_X && is_held_in s f.value) ≡ true))
   one = any_at (λ s. has_flag s.flags PF_X && is_held_in s f.value) o.segments executable
@@ -117,37 +117,37 @@ module _ (l : Loaded) (h : IsConsistent l) (f : Func) (o : Object) (live : objec
   by = let range = held_means one.1 f.value parts.1 in lies_by l h f.module one.0 o one.1 live one.2.0 f.value range.0 (omega (arith, range.1))
 
   -- a module has code there
-  some_code : code_at l.process l.maps a ≢ None
+  some_code : code_at l.modules.process l.modules.maps a ≢ None
   some_code =
-      let place = in_place (slice_get l.process.modules f.module) o live in
+      let place = in_place (slice_get l.modules.process.modules f.module) o live in
       let passes : is_code_of a (one.1, by.entry) ≡ true =
       and_from (has_flag (one.1).flags PF_X) (is_in by.entry.addr by.entry.memsz a) parts.0 (is_inside by.entry.addr by.entry.memsz a by.above by.below) in
-      let here : code_in a f.module o (map_at l.maps f.module) ≢ None =
-      map_not_none (link_of a f.module) (find (is_code_of a) (zip o.segments (map_at l.maps f.module))) (found_in (is_code_of a) o.segments (map_at l.maps f.module) one.0 one.1 by.entry one.2.0 by.at passes) in
-      among_some l.maps a 0 f.module l.process.modules place.0 place.1
-      (subst (λ (n : ℕ). code_in a n place.0.object (map_at l.maps n) ≢ None) (omega arith) (subst (λ (x : Object). code_in a f.module x (map_at l.maps f.module) ≢ None) (sym place.2) here))
+      let here : code_in a f.module o (map_at l.modules.maps f.module) ≢ None =
+      map_not_none (link_of a f.module) (find (is_code_of a) (zip o.segments (map_at l.modules.maps f.module))) (found_in (is_code_of a) o.segments (map_at l.modules.maps f.module) one.0 one.1 by.entry one.2.0 by.at passes) in
+      among_some l.modules.maps a 0 f.module l.modules.process.modules place.0 place.1
+      (subst (λ (n : ℕ). code_in a n place.0.object (map_at l.modules.maps n) ≢ None) (omega arith) (subst (λ (x : Object). code_in a f.module x (map_at l.modules.maps f.module) ≢ None) (sym place.2) here))
 
   -- and only the function's
-  only_code : (g : Func) → code_at l.process l.maps a ≡ Some g → g ≡ f
+  only_code : (g : Func) → code_at l.modules.process l.modules.maps a ≡ Some g → g ≡ f
   only_code g is =
       let its = coded_by l a g is in
       let its_range : LiesIn l g.module a =
-      record { entry = its.entry; listed = contains_at (map_at l.maps g.module) its.pair.index its.entry its.pair.right; above = its.above; below = its.below } in
+      record { entry = its.entry; listed = contains_at (map_at l.modules.maps g.module) its.pair.index its.entry its.pair.right; above = its.above; below = its.below } in
       let own : LiesIn l f.module a =
-      record { entry = by.entry; listed = contains_at (map_at l.maps f.module) one.0 by.entry by.at; above = by.above; below = by.below } in
+      record { entry = by.entry; listed = contains_at (map_at l.modules.maps f.module) one.0 by.entry by.at; above = by.above; below = by.below } in
       let same : g.module ≡ f.module = one_owner l h g.module f.module a its_range own in
-      let there : slice_get (map_at l.maps f.module) its.pair.index ≡ Some its.entry =
-      subst (λ (n : ℕ). slice_get (map_at l.maps n) its.pair.index ≡ Some its.entry) same its.pair.right in
+      let there : slice_get (map_at l.modules.maps f.module) its.pair.index ≡ Some its.entry =
+      subst (λ (n : ℕ). slice_get (map_at l.modules.maps n) its.pair.index ≡ Some its.entry) same its.pair.right in
       let entry : its.entry ≡ by.entry =
-      one_entry (map_at l.maps f.module) its.pair.index one.0 a its.entry by.entry (h.modules'.standing f.module o live).apart there by.at its.above its.below by.above by.below in
+      one_entry (map_at l.modules.maps f.module) its.pair.index one.0 a its.entry by.entry (h.modules'.standing f.module o live).apart there by.at its.above its.below by.above by.below in
       let value : g.value ≡ f.value = its.value' ∙ ap (λ (e : MapEntry). e.vaddr + (a - e.addr)) entry ∙ by.back in
       both g f same value
     where
       both : (x y : Func) → x.module ≡ y.module → x.value ≡ y.value → x ≡ y
       both x y p q = same_func x.module y.module x.value y.value p q
 
-  pub function_there : code_at l.process l.maps a ≡ Some f
-  function_there = decided (code_at l.process l.maps a) some_code only_code
+  pub function_there : code_at l.modules.process l.modules.maps a ≡ Some f
+  function_there = decided (code_at l.modules.process l.modules.maps a) some_code only_code
     where
       decided : (x : Option Func) → x ≢ None → ((g : Func) → x ≡ Some g → g ≡ f) → x ≡ Some f
       decided None some only = absurd (some refl)
@@ -160,38 +160,38 @@ answer_of (Ok y) f is = ap (λ z. Ok z) is
 answer_of (Err e) f is = absurd cc
 
 module _ (l : Loaded) (h : IsConsistent l) (m k : ℕ) (o : Object) (r : Rel) (slot : SlotPair) (slot_is : IsSlotOf l m k o r slot) where
-  word_is : slot.code ≡ (slot_pair_at (linkage_of l.process) (placing_of l.process l.maps empty) m o r).code
+  word_is : slot.code ≡ (slot_pair_at (linkage_of l.modules.process) (placing_of l.modules.process l.modules.maps empty) m o r).code
   word_is =
-      let both : Some slot ≡ Some (slot_pair_at (linkage_of l.process) (placing_of l.process l.maps empty) m o r) =
+      let both : Some slot ≡ Some (slot_pair_at (linkage_of l.modules.process) (placing_of l.modules.process l.modules.maps empty) m o r) =
       sym slot_is.pair ∙ slot_listed l m k o r slot_is.live slot_is.is_slot in
-      let same : slot ≡ slot_pair_at (linkage_of l.process) (placing_of l.process l.maps empty) m o r = cc in
+      let same : slot ≡ slot_pair_at (linkage_of l.modules.process) (placing_of l.modules.process l.modules.maps empty) m o r = cc in
       ap (λ (s : SlotPair). s.code) same
 
-  to_function : (f : Func) → slot_function (linkage_of l.process) m o r ≡ Some f → code_at l.process l.maps slot.code ≡ Some f
+  to_function : (f : Func) → slot_function (linkage_of l.modules.process) m o r ≡ Some f → code_at l.modules.process l.modules.maps slot.code ≡ Some f
   to_function f is =
-      let word : slot.code ≡ placed (map_at l.maps f.module) f.value =
-      word_is ∙ ap (λ (x : Option Func). option_map_or (λ (g : Func). placed (map_at l.maps g.module) g.value) x 0) is in
-      let coded : is_code (linkage_of l.process) f ≡ true =
-      function_is_code (linkage_of l.process) m o r f (answer_of (function_at (linkage_of l.process) m o r) f is) in
+      let word : slot.code ≡ placed (map_at l.modules.maps f.module) f.value =
+      word_is ∙ ap (λ (x : Option Func). option_map_or (λ (g : Func). placed (map_at l.modules.maps g.module) g.value) x 0) is in
+      let coded : is_code (linkage_of l.modules.process) f ≡ true =
+      function_is_code (linkage_of l.modules.process) m o r f (answer_of (function_at (linkage_of l.modules.process) m o r) f is) in
       let parts =
-      and_parts (f.value % 4 == 0) (option_map_or (λ (x : Object). is_executable_in x.segments f.value) (object_at l.process f.module) false) coded in
-      let its = in_object (object_at l.process f.module) f.value parts.1 in
-      ap (code_at l.process l.maps) word ∙ function_there l h f its.0 its.1 its.2
+      and_parts (f.value % 4 == 0) (option_map_or (λ (x : Object). is_executable_in x.segments f.value) (object_at l.modules.process f.module) false) coded in
+      let its = in_object (object_at l.modules.process f.module) f.value parts.1 in
+      ap (code_at l.modules.process l.modules.maps) word ∙ function_there l h f its.0 its.1 its.2
 
-  no_code : (x : Option Func) → code_at l.process l.maps 0 ≡ x → x ≡ None
+  no_code : (x : Option Func) → code_at l.modules.process l.modules.maps 0 ≡ x → x ≡ None
   no_code None is = refl
   no_code (Some g) is =
       let its = coded_by l 0 g is in
       let entry =
-      zip_at_right (IsEntryOf l.plan) its.object'.segments (map_at l.maps g.module) its.pair.index its.entry (h.modules'.standing g.module its.object' its.live).mapped its.pair.right in
+      zip_at_right (IsEntryOf l.modules.plan) its.object'.segments (map_at l.modules.maps g.module) its.pair.index its.entry (h.modules'.standing g.module its.object' its.live).mapped its.pair.right in
       let above = entry.2.above in
       let low : its.entry.addr ≤ 0 = its.above in
       absurd (omega arith)
 
-  to_none : slot_function (linkage_of l.process) m o r ≡ None → code_at l.process l.maps slot.code ≡ None
+  to_none : slot_function (linkage_of l.modules.process) m o r ≡ None → code_at l.modules.process l.modules.maps slot.code ≡ None
   to_none is =
-      let word : slot.code ≡ 0 = word_is ∙ ap (λ (x : Option Func). option_map_or (λ (g : Func). placed (map_at l.maps g.module) g.value) x 0) is in
-      ap (code_at l.process l.maps) word ∙ no_code (code_at l.process l.maps 0) refl
+      let word : slot.code ≡ 0 = word_is ∙ ap (λ (x : Option Func). option_map_or (λ (g : Func). placed (map_at l.modules.maps g.module) g.value) x 0) is in
+      ap (code_at l.modules.process l.modules.maps) word ∙ no_code (code_at l.modules.process l.modules.maps 0) refl
 
 pub slots_lead_to_placed_code_lem : SlotsLeadToPlacedCode
 slots_lead_to_placed_code_lem = record {

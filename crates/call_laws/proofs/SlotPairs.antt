@@ -82,18 +82,18 @@ pair_words_are p site None = refl
 pair_words_are p site (Some g) = refl
 
 -- slot k of live module m
-module _ (l : Loaded) (h : IsConsistent l) (small : l.plan.memory < 2 ^ 32) (m k : ℕ) (o : Object) (r : Rel) (live : object_at l.process m ≡ Some o)
+module _ (l : Loaded) (h : IsConsistent l) (small : l.modules.plan.memory < 2 ^ 32) (m k : ℕ) (o : Object) (r : Rel) (live : object_at l.modules.process m ≡ Some o)
     (slot_is : slot_of o k ≡ Some r) (near : is_near o.segments r.site o.got ≡ true) where
   abbrev p : Placing
-  p = placing_of l.process l.maps l.addrs
+  p = placing_of l.modules.process l.modules.maps l.modules.addrs
 
   abbrev x : ℕ
-  x = placed (map_at l.maps m) r.site
+  x = placed (map_at l.modules.maps m) r.site
 
   abbrev g : ℕ
-  g = placed (map_at l.maps m) o.got
+  g = placed (map_at l.modules.maps m) o.got
 
-  standing : IsStanding l m o
+  standing : IsStanding l.modules m o
   standing = h.modules'.standing m o live
 
   there : Contains o.jmprels r
@@ -104,13 +104,13 @@ module _ (l : Loaded) (h : IsConsistent l) (small : l.plan.memory < 2 ^ 32) (m k
 
   -- ---- where it leads
 
-  leads_to : (f : Option Func) × (function_at (linkage_of l.process) m o r ≡ Ok f) × (site_value (linkage_of l.process) m o r ≡ Ok (Pair f))
-  leads_to = slot_leads (linkage_of l.process) m o r kind (slot_site o r there) standing.filled
+  leads_to : (f : Option Func) × (function_at (linkage_of l.modules.process) m o r ≡ Ok f) × (site_value (linkage_of l.modules.process) m o r ≡ Ok (Pair f))
+  leads_to = slot_leads (linkage_of l.modules.process) m o r kind (slot_site o r there) standing.filled
 
   pub function : Option Func
   function = leads_to.0
 
-  pub function_is : function_at (linkage_of l.process) m o r ≡ Ok function
+  pub function_is : function_at (linkage_of l.modules.process) m o r ≡ Ok function
   unfolding function
   function_is = leads_to.1
 
@@ -157,18 +157,18 @@ module _ (l : Loaded) (h : IsConsistent l) (small : l.plan.memory < 2 ^ 32) (m k
       let pairs = filter (λ (q : Rel). q.kind == R_ARM_FUNCDESC_VALUE) (site_relocations o) in
       let passes : (r.kind == R_ARM_FUNCDESC_VALUE) ≡ true = rw kind refl in
       let in_pairs = filter_in (λ (q : Rel). q.kind == R_ARM_FUNCDESC_VALUE) (site_relocations o) r (slot_site o r there) passes in
-      let range : Rel → ℕ × ℕ = λ q. (placed (map_at l.maps m) q.site, 8) in
-      let listed : Contains (watched_ranges (map_at l.maps m) o) (x, 8) = contains_later (g, 12) (x, 8) (map range pairs) (map_in range pairs r in_pairs) in
+      let range : Rel → ℕ × ℕ = λ q. (placed (map_at l.modules.maps m) q.site, 8) in
+      let listed : Contains (watched_ranges (map_at l.modules.maps m) o) (x, 8) = contains_later (g, 12) (x, 8) (map range pairs) (map_in range pairs r in_pairs) in
       h.laid_out.watched m x 8 (x + i) (record { object' = o; live = live; listed = listed }) (is_inside x 8 (x + i) (omega arith) (omega arith))
 
-  slot_byte : (i : ℕ) → i < 8 → byte_at l.memory (x + i) ≡ image_of (linkage_of l.process) p m o (r.site + i)
+  slot_byte : (i : ℕ) → i < 8 → byte_at l.memory (x + i) ≡ image_of (linkage_of l.modules.process) p m o (r.site + i)
   slot_byte i lt = byte_there l h m both.place o both.segment live both.held r.site i site_within.0 (omega (arith, site_within.1)) (slot_watched i lt)
 
-  words : All (HasWord (image_of (linkage_of l.process) p m o)) (pair_at r.site (code_of p function) (got_for p function))
+  words : All (HasWord (image_of (linkage_of l.modules.process) p m o)) (pair_at r.site (code_of p function) (got_for p function))
   unfolding function
   words =
-      subst (All (HasWord (image_of (linkage_of l.process) p m o))) (pair_words_are p r.site function)
-      (site_stands (linkage_of l.process) p m o r (Pair function) standing.sound (slot_site o r there) leads_to.2)
+      subst (All (HasWord (image_of (linkage_of l.modules.process) p m o))) (pair_words_are p r.site function)
+      (site_stands (linkage_of l.modules.process) p m o r (Pair function) standing.sound (slot_site o r there) leads_to.2)
 
   abbrev first : LinkWord
   first = record { addr = r.site; value = code_of p function }
@@ -176,12 +176,12 @@ module _ (l : Loaded) (h : IsConsistent l) (small : l.plan.memory < 2 ^ 32) (m k
   abbrev second : LinkWord
   second = record { addr = r.site + 4; value = got_for p function }
 
-  first_stands : HasWord (image_of (linkage_of l.process) p m o) first
-  first_stands = All-head (HasWord (image_of (linkage_of l.process) p m o)) first (second ∷ []) words
+  first_stands : HasWord (image_of (linkage_of l.modules.process) p m o) first
+  first_stands = All-head (HasWord (image_of (linkage_of l.modules.process) p m o)) first (second ∷ []) words
 
-  second_stands : HasWord (image_of (linkage_of l.process) p m o) second
+  second_stands : HasWord (image_of (linkage_of l.modules.process) p m o) second
   second_stands =
-      let P = HasWord (image_of (linkage_of l.process) p m o) in
+      let P = HasWord (image_of (linkage_of l.modules.process) p m o) in
       All-head P second [] (All-tail P first (second ∷ []) words)
 
   slot_aligned : x % 4 ≡ 0
@@ -201,4 +201,4 @@ module _ (l : Loaded) (h : IsConsistent l) (small : l.plan.memory < 2 ^ 32) (m k
       let link : (i : ℕ) → r.site + (4 + i) ≡ r.site + 4 + i = λ i. omega arith in
       read_there l.memory (x + 4) (got_for p function) (kind_of_segment both.segment) (omega arith) (λ i lt. ap (kind_at l.memory) (next i) ∙ slot_kinds_are (4 + i) (omega arith))
       (value_stands l.memory (x + 4) (got_for p function) goal_of.got_below
-      (λ i lt. ap (byte_at l.memory) (next i) ∙ slot_byte (4 + i) (omega arith) ∙ ap (image_of (linkage_of l.process) p m o) (link i) ∙ second_stands i lt))
+      (λ i lt. ap (byte_at l.memory) (next i) ∙ slot_byte (4 + i) (omega arith) ∙ ap (image_of (linkage_of l.modules.process) p m o) (link i) ∙ second_stands i lt))

@@ -88,40 +88,40 @@ got_spanned o sound = writable_there o o.got 12 (All-head (IsInPlace o.segments)
 
 -- both words of a slot fit, and the first is the address of an instruction, or 0
 pub record IsTarget (l : Loaded) (f : Option Func) : Type 0 where
-  pub code_below : option_map_or (place_of (placing_of l.process l.maps l.addrs)) f 0 < 2 ^ 32
-  pub code_aligned : option_map_or (place_of (placing_of l.process l.maps l.addrs)) f 0 % 4 ≡ 0
-  pub got_below : option_map_or (λ (g : Func). got_of (placing_of l.process l.maps l.addrs) g.module) f 0 < 2 ^ 32
+  pub code_below : option_map_or (place_of (placing_of l.modules.process l.modules.maps l.modules.addrs)) f 0 < 2 ^ 32
+  pub code_aligned : option_map_or (place_of (placing_of l.modules.process l.modules.maps l.modules.addrs)) f 0 % 4 ≡ 0
+  pub got_below : option_map_or (λ (g : Func). got_of (placing_of l.modules.process l.modules.maps l.modules.addrs) g.module) f 0 < 2 ^ 32
 
 pub in_object : (x : Option Object) (v : ℕ) → option_map_or (λ (o : Object). is_executable_in o.segments v) x false ≡ true
     → (o : Object) × (x ≡ Some o) × (is_executable_in o.segments v ≡ true)
 in_object None v is = cc
 in_object (Some o) v is = (o, refl, is)
 
-module _ (l : Loaded) (h : IsConsistent l) (small : l.plan.memory < 2 ^ 32) where
-  code_target : (f : Func) → is_code (linkage_of l.process) f ≡ true → IsTarget l (Some f)
+module _ (l : Loaded) (h : IsConsistent l) (small : l.modules.plan.memory < 2 ^ 32) where
+  code_target : (f : Func) → is_code (linkage_of l.modules.process) f ≡ true → IsTarget l (Some f)
   code_target f is =
-      let parts = and_parts (f.value % 4 == 0) (option_map_or (λ (o : Object). is_executable_in o.segments f.value) (object_at l.process f.module) false) is in
-      let x = in_object (object_at l.process f.module) f.value parts.1 in
+      let parts = and_parts (f.value % 4 == 0) (option_map_or (λ (o : Object). is_executable_in o.segments f.value) (object_at l.modules.process f.module) false) is in
+      let x = in_object (object_at l.modules.process f.module) f.value parts.1 in
       let o = x.0 in
-      let live : object_at l.process f.module ≡ Some o = x.1 in
+      let live : object_at l.modules.process f.module ≡ Some o = x.1 in
       let at = executable_there o f.value x.2 in
       let got = got_spanned o (h.modules'.standing f.module o live).sound in
       let from : at.segment.vaddr ≤ f.value = at.from in
       let to : f.value + 1 ≤ at.segment.vaddr + at.segment.memsz = at.to in
       let got_from : got.segment.vaddr ≤ o.got = got.from in
       let got_to : o.got + 12 ≤ got.segment.vaddr + got.segment.memsz = got.to in
-      let ends : placed (map_at l.maps f.module) f.value + 1 < 2 ^ 32 =
+      let ends : placed (map_at l.modules.maps f.module) f.value + 1 < 2 ^ 32 =
       ends_there l h f.module at.index o at.segment live at.held f.value 1 from (omega arith) to small in
-      let got_ends : placed (map_at l.maps f.module) o.got + 12 < 2 ^ 32 =
+      let got_ends : placed (map_at l.modules.maps f.module) o.got + 12 < 2 ^ 32 =
       ends_there l h f.module got.index o got.segment live got.held o.got 12 got_from (omega arith) got_to small in
-      let got_is : got_of (placing_of l.process l.maps l.addrs) f.module ≡ placed (map_at l.maps f.module) o.got =
-      ap (λ (y : Option Object). option_map_or (placed (map_at l.maps f.module)) (option_map (λ (z : Object). z.got) y) 0) live in
+      let got_is : got_of (placing_of l.modules.process l.modules.maps l.modules.addrs) f.module ≡ placed (map_at l.modules.maps f.module) o.got =
+      ap (λ (y : Option Object). option_map_or (placed (map_at l.modules.maps f.module)) (option_map (λ (z : Object). z.got) y) 0) live in
       record {
         code_below = omega arith;
         code_aligned = aligned_there l h f.module at.index o at.segment live at.held f.value from (omega arith) (eqb-true (f.value % 4) 0 parts.0);
         got_below = omega arith;
       }
 
-  pub target : (m : ℕ) (o : Object) (r : Rel) (f : Option Func) → function_at (linkage_of l.process) m o r ≡ Ok f → IsTarget l f
+  pub target : (m : ℕ) (o : Object) (r : Rel) (f : Option Func) → function_at (linkage_of l.modules.process) m o r ≡ Ok f → IsTarget l f
   target m o r None is = record { code_below = omega arith; code_aligned = refl; got_below = omega arith }
-  target m o r (Some f) is = code_target f (code_at (linkage_of l.process) m o r f is)
+  target m o r (Some f) is = code_target f (code_at (linkage_of l.modules.process) m o r f is)

@@ -62,7 +62,7 @@ module _ (s : State) (t : ℕ) where
       → IfSome (after (went s t (record s.loaded { memory = memory }) thread events answer)) (IsTurnOf t s)
   went-keeps memory thread events answer keeps =
       going (IsTurnOf t s) answer (went s t (record s.loaded { memory = memory }) thread events answer).state
-      (record { plan = refl; process = refl; maps = refl; keeps = keeps; others = changed (Some (with_calls s.loaded.process s.loaded.maps thread)) })
+      (record { plan = refl; process = refl; maps = refl; keeps = keeps; others = changed (Some (with_calls s.loaded.modules.process s.loaded.modules.maps thread)) })
 
   finished-keeps : (memory : GuestMemory) (value : ℕ) → Keeps s.loaded.memory memory → IfSome (after (finished s t (record s.loaded { memory = memory }) value)) (IsTurnOf t s)
   finished-keeps memory value keeps =

@@ -1,3 +1,4 @@
+pub mod Numbers
 pub mod Hashed
 pub mod Inits
 pub mod Filled

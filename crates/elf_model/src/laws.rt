@@ -1,7 +1,13 @@
-//! Laws on the definition of an accepted object. A call of one does nothing.
+//! Laws on the numbers of the tables and on the definition of an accepted object. A call of one does nothing.
 
+ghost use Rattle.elf_model.specs.Numbers.{HasNumbers};
 ghost use Rattle.elf_model.specs.Sound.{AcceptedIsSound};
 ghost use Rattle.elf_model.specs.Object.{OneObject};
+
+/// Each constant is the number that the standards give it, and each limit is what it is said to be.
+pub fn numbers()
+    ensures { HasNumbers }
+{}
 
 /// Bytes are at most one object, and none where a test fails.
 pub fn one_object()

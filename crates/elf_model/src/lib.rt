@@ -14,7 +14,7 @@ mod symbol_hash;
 mod table;
 
 pub use func::Func;
-pub use laws::{accepted_is_sound, one_object};
+pub use laws::{accepted_is_sound, numbers, one_object};
 pub use object::{
     Extent, Inits, Kind, Object, Place, Rel, Rels, Segment, Segments, Symbol, Symbols,
 };

@@ -15,7 +15,7 @@ pub enum Kind {
 }
 
 /// A loadable segment. Past the bytes that the file holds its memory is zero.
-#[derive(Debug, Drop)]
+#[derive(Drop)]
 pub struct Segment {
     /// The link address of its first byte.
     pub vaddr: u32,
@@ -30,7 +30,7 @@ pub struct Segment {
 }
 
 /// Where a symbol is defined.
-#[derive(Clone, Copy, Debug, PartialEq, Eq)]
+#[derive(Clone, Copy, PartialEq, Eq)]
 pub enum Place {
     /// In no place of this file.
     Undefined,
@@ -47,7 +47,7 @@ pub enum Place {
 }
 
 /// A symbol.
-#[derive(Debug, Drop)]
+#[derive(Drop)]
 pub struct Symbol {
     /// Its name, and none where that is empty.
     pub name: Option<Name>,
@@ -77,7 +77,7 @@ pub struct Rel {
 }
 
 /// A range of link addresses.
-#[derive(Clone, Copy, Debug, PartialEq, Eq)]
+#[derive(Clone, Copy, PartialEq, Eq)]
 pub struct Extent {
     /// Its first link address.
     pub addr: u32,
@@ -86,7 +86,7 @@ pub struct Extent {
 }
 
 /// What an object wants to have called at its start and its end. Nothing calls it yet.
-#[derive(Clone, Copy, Debug, PartialEq, Eq)]
+#[derive(Clone, Copy, PartialEq, Eq)]
 pub struct Inits {
     /// The value of DT_INIT.
     pub init: Option<u32>,
@@ -118,7 +118,7 @@ pub type Symbols = Seq<Symbol>;
 pub type Rels = Seq<Rel>;
 
 /// An executable or a shared object.
-#[derive(Debug, Drop)]
+#[derive(Drop)]
 pub struct Object {
     /// What it is for.
     pub kind: Kind,

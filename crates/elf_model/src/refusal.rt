@@ -1,7 +1,7 @@
 //! Why bytes are no object.
 
 /// Which test the bytes fail.
-#[derive(Clone, Copy, Debug, PartialEq, Eq)]
+#[derive(Clone, Copy, PartialEq, Eq)]
 pub enum ElfKind {
     /// The file ends inside the ELF header.
     Short = 1,
@@ -50,7 +50,7 @@ pub enum ElfKind {
 }
 
 /// The first failing test.
-#[derive(Clone, Copy, Debug, PartialEq, Eq)]
+#[derive(Clone, Copy, PartialEq, Eq)]
 pub struct ElfRefusal {
     /// Which test fails.
     pub kind: ElfKind,

@@ -4,7 +4,7 @@ use crate::object::{Rels, Symbols};
 use fd_base::{Bytes, Name, Seq};
 
 /// A section that has memory at run time.
-#[derive(Debug, Drop)]
+#[derive(Drop)]
 pub struct RelSection {
     /// Its name, and none where that is empty.
     pub name: Option<Name>,
@@ -28,7 +28,7 @@ pub type RelSections = Seq<RelSection>;
 pub type RelObjects = Seq<RelObject>;
 
 /// A relocatable file.
-#[derive(Debug, Drop)]
+#[derive(Drop)]
 pub struct RelObject {
     /// The sections that are kept.
     pub sections: RelSections,

@@ -1,7 +1,7 @@
 //! The entries of an object's tables, as they stand in the file.
 
 /// A program header (gABI, "Program Header"). The fields that nothing looks at are left out.
-#[derive(Clone, Copy, Debug, PartialEq, Eq)]
+#[derive(Clone, Copy)]
 pub struct ProgramHeader {
     /// `PT_LOAD` and the like.
     pub kind: u32,
@@ -20,7 +20,7 @@ pub struct ProgramHeader {
 }
 
 /// A section header (gABI, "Section Header").
-#[derive(Clone, Copy, Debug, PartialEq, Eq)]
+#[derive(Clone, Copy)]
 pub struct SectionHeader {
     /// Where its name stands in the names of sections, in bytes.
     pub name: u32,
@@ -43,7 +43,7 @@ pub struct SectionHeader {
 }
 
 /// An entry of the dynamic section (gABI, "Dynamic Section"), and where it stands in the file.
-#[derive(Clone, Copy, Debug, PartialEq, Eq)]
+#[derive(Clone, Copy)]
 pub struct DynEntry {
     /// Where it stands in the file, in bytes.
     pub offset: u32,
@@ -54,7 +54,7 @@ pub struct DynEntry {
 }
 
 /// A symbol (gABI, "Symbol Table"), and where it stands in the file.
-#[derive(Clone, Copy, Debug, PartialEq, Eq)]
+#[derive(Clone, Copy)]
 pub struct SymbolEntry {
     /// Where it stands in the file, in bytes.
     pub offset: u32,
@@ -73,7 +73,7 @@ pub struct SymbolEntry {
 }
 
 /// Which table a relocation stands in.
-#[derive(Clone, Copy, Debug, PartialEq, Eq)]
+#[derive(Clone, Copy, PartialEq, Eq)]
 pub enum RelTable {
     /// That of DT_REL.
     Rel,
@@ -82,7 +82,7 @@ pub enum RelTable {
 }
 
 /// A relocation entry (gABI, "Relocation"), its table, and where it stands in the file.
-#[derive(Clone, Copy, Debug, PartialEq, Eq)]
+#[derive(Clone, Copy)]
 pub struct RelEntry {
     /// The table that it stands in.
     pub table: RelTable,
@@ -97,7 +97,7 @@ pub struct RelEntry {
 }
 
 /// A range of link addresses that a relocation or a fixup fills.
-#[derive(Clone, Copy, Debug, PartialEq, Eq)]
+#[derive(Clone, Copy, PartialEq, Eq)]
 pub struct Site {
     /// The link address of the first byte.
     pub addr: u32,

@@ -2,7 +2,7 @@ use elf_model::ElfRefusal;
 use std::alloc::{AllocError, AllocFailed};
 
 /// Why bytes are not read.
-#[derive(Clone, Copy, Debug, PartialEq, Eq)]
+#[derive(Clone, Copy, PartialEq, Eq)]
 pub enum ReadErr {
     /// They are no object. This is the first test that they fail.
     Refused(ElfRefusal),

@@ -6,7 +6,7 @@ ghost use Rattle.elf_model.specs.Sections as section;
 ghost use Rattle.elf_model.specs.Relocations as rel;
 ghost use Rattle.elf_model.specs.Fields as field;
 ghost use Rattle.elf_model.specs.Object as spec;
-ghost use Rattle.elf_read.specs.parts.HeaderTables.{HasProgramTable, HasSectionTable, IsFixupList};
+ghost use Rattle.elf_read.specs.parts.HeaderTables.{HasLoads, HasProgramTable, IsFixupList};
 ghost use Rattle.elf_model.specs.declared.object.Object.{Object};
 ghost use Rattle.elf_model.specs.declared.refusal.ElfRefusal.{ElfRefusal};
 ghost use Rattle.elf_model.specs.Object.{IsObject};
@@ -29,7 +29,7 @@ use crate::sections::read_rofixup;
 use crate::segments::{read_loads, segments_of};
 use crate::strings::read_strings;
 use crate::symbols::{read_symbol_table, read_symbols};
-use crate::tables::{jmprel_entries, rel_entries};
+use crate::tables::RelTables;
 use elf_model::constants::{E_PHOFF, EHDR_SIZE};
 use elf_model::{DynEntry, Object, ProgramHeader, RelEntry, Rels, Symbols};
 use fd_base::{Name, Names, Words};
@@ -74,12 +74,7 @@ pub struct Dynamic {
 /// The dynamic section, the list of fixups and the GOT.
 #[tactic(auto, using(elf_model::proofs::Tests::passed_over, elf_model::proofs::Tests::fails_first), unfolding(elf_model::specs::Object::dynamic_tests, elf_model::specs::Fields::entries))]
 fn read_dynamic(alloc: Global, bytes: &[u8], loads: &[ProgramHeader]) -> Result<Dynamic, ReadErr>
-    requires small { length bytes.now < 2 ^ 32 }
-    requires long { EHDR_SIZE ≤ length bytes.now }
-    requires table { HasProgramTable bytes.now }
-    requires sections { HasSectionTable bytes.now }
-    requires in_file { All (segment.InFile (length bytes.now)) loads.now }
-    requires are_loads { loads.now ≡ segment.loads bytes.now }
+    requires loads { HasLoads bytes.now loads.now }
     ensures tests { ReadsDynamic bytes.now result }
     ensures list { IfOk result (λ d. IfSome d.list (IsFixupList bytes.now)) }
     ensures in_place { IfOk result (λ d. rel.is_in_place loads.now (rel.got_header d.got) ≡ true) }
@@ -111,12 +106,7 @@ fn read_names(
     loads: &[ProgramHeader],
     entries: &[DynEntry],
 ) -> Result<Named, ReadErr>
-    requires small { length bytes.now < 2 ^ 32 }
-    requires long { EHDR_SIZE ≤ length bytes.now }
-    requires table { HasProgramTable bytes.now }
-    requires sections { HasSectionTable bytes.now }
-    requires in_file { All (segment.InFile (length bytes.now)) loads.now }
-    requires are_loads { loads.now ≡ segment.loads bytes.now }
+    requires loads { HasLoads bytes.now loads.now }
     requires are_entries { entries.now ≡ field.entries bytes.now }
     ensures { ReadsNames bytes.now result }
 {
@@ -154,8 +144,13 @@ fn read_tables(
     requires in_file { All (segment.InFile (length bytes.now)) loads.now }
     ensures { ReadsTables bytes.now loads.now entries.now result }
 {
-    let own = rel_entries(alloc, bytes, loads, entries)?;
-    let slots = jmprel_entries(alloc, bytes, loads, entries)?;
+    let tables = RelTables {
+        bytes,
+        loads,
+        entries,
+    };
+    let own = tables.own(alloc)?;
+    let slots = tables.slots(alloc)?;
     Ok(Tables { own, slots })
 }
 

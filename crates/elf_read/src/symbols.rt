@@ -25,7 +25,7 @@ use fd_base::{half_in, word_in};
 use std::alloc::Global;
 
 /// Where the symbols stand in the file, and how many there are.
-#[derive(Clone, Copy, Debug)]
+#[derive(Clone, Copy)]
 pub struct SymbolTable {
     /// The offset of symbol 0 in the file.
     pub offset: usize,

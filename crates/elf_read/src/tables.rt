@@ -18,7 +18,7 @@ use fd_base::{Memory, word_in};
 use std::alloc::Global;
 
 /// Where a table of relocations stands.
-#[derive(Clone, Copy, Debug)]
+#[derive(Clone, Copy)]
 pub struct RelRange {
     /// The link address of the first entry.
     pub addr: u32,
@@ -146,44 +146,45 @@ fn entries_of(
     Ok(entries)
 }
 
-/// The entries of DT_REL that are its own: those inside the table of the slots are left out.
-#[tactic(auto, using(crate::proofs::Ranges::own_entries))]
-pub fn rel_entries(
-    alloc: Global,
-    bytes: &[u8],
-    loads: &[ProgramHeader],
-    entries: &[DynEntry],
-) -> Result<Vec<RelEntry>, ReadErr>
-    requires small { length bytes.now < 2 ^ 32 }
-    requires in_file { All (InFile (length bytes.now)) loads.now }
-    ensures { Reads (λ v. v.items) result (spec.rel_table_tests loads.now entries.now DT_REL DT_RELSZ)
-        (spec.rel_entries bytes.now loads.now entries.now) }
-{
-    match range_of(loads, entries, DT_REL, DT_RELSZ)? {
-        None => Ok(Vec::new(alloc)),
-        Some(range) => {
-            let slots = slot_range(entries);
-            Ok(entries_of(alloc, bytes, RelTable::Rel, slots, &range)?)
-        }
-    }
+/// Where the tables of relocations of a file are looked for.
+#[derive(Clone, Copy)]
+pub struct RelTables<'a> {
+    pub bytes: &'a [u8],
+    /// The headers of the segments to be loaded.
+    pub loads: &'a [ProgramHeader],
+    /// The entries of the dynamic section.
+    pub entries: &'a [DynEntry],
 }
 
-/// The entries of DT_JMPREL, one for each slot.
-#[tactic(auto, using(crate::proofs::Ranges::slot_entries))]
-pub fn jmprel_entries(
-    alloc: Global,
-    bytes: &[u8],
-    loads: &[ProgramHeader],
-    entries: &[DynEntry],
-) -> Result<Vec<RelEntry>, ReadErr>
-    requires small { length bytes.now < 2 ^ 32 }
-    requires in_file { All (InFile (length bytes.now)) loads.now }
-    ensures { Reads (λ v. v.items) result
-        (spec.rel_table_tests loads.now entries.now DT_JMPREL DT_PLTRELSZ)
-        (spec.jmprel_entries bytes.now loads.now entries.now) }
-{
-    match range_of(loads, entries, DT_JMPREL, DT_PLTRELSZ)? {
-        None => Ok(Vec::new(alloc)),
-        Some(range) => Ok(entries_of(alloc, bytes, RelTable::JmpRel, None, &range)?),
+impl<'a> RelTables<'a> {
+    /// The entries of DT_REL that are its own: those inside the table of the slots are left out.
+    #[tactic(auto, using(crate::proofs::Ranges::own_entries))]
+    pub fn own(self, alloc: Global) -> Result<Vec<RelEntry>, ReadErr>
+        requires small { length self.bytes.now < 2 ^ 32 }
+        requires in_file { All (InFile (length self.bytes.now)) self.loads.now }
+        ensures { Reads (λ v. v.items) result (spec.rel_table_tests self.entry.loads.now self.entry.entries.now DT_REL DT_RELSZ)
+            (spec.rel_entries self.entry.bytes.now self.entry.loads.now self.entry.entries.now) }
+    {
+        match range_of(self.loads, self.entries, DT_REL, DT_RELSZ)? {
+            None => Ok(Vec::new(alloc)),
+            Some(range) => {
+                let slots = slot_range(self.entries);
+                Ok(entries_of(alloc, self.bytes, RelTable::Rel, slots, &range)?)
+            }
+        }
+    }
+
+    /// The entries of DT_JMPREL, one for each slot.
+    #[tactic(auto, using(crate::proofs::Ranges::slot_entries))]
+    pub fn slots(self, alloc: Global) -> Result<Vec<RelEntry>, ReadErr>
+        requires small { length self.bytes.now < 2 ^ 32 }
+        requires in_file { All (InFile (length self.bytes.now)) self.loads.now }
+        ensures { Reads (λ v. v.items) result (spec.rel_table_tests self.entry.loads.now self.entry.entries.now DT_JMPREL DT_PLTRELSZ)
+            (spec.jmprel_entries self.entry.bytes.now self.entry.loads.now self.entry.entries.now) }
+    {
+        match range_of(self.loads, self.entries, DT_JMPREL, DT_PLTRELSZ)? {
+            None => Ok(Vec::new(alloc)),
+            Some(range) => Ok(entries_of(alloc, self.bytes, RelTable::JmpRel, None, &range)?),
+        }
     }
 }

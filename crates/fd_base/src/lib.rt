@@ -4,6 +4,7 @@
 mod calls;
 mod fields;
 mod host;
+mod laws;
 mod lines;
 mod name;
 mod seq;
@@ -17,6 +18,7 @@ pub use fields::{
     put_word_field,
 };
 pub use host::{DirStore, StdSink};
+pub use laws::numbers;
 pub use lines::{Line, Lines};
 pub use name::{Name, NameErr};
 pub use seq::{Bytes, Memory, Names, Numbers, Seq, Words};

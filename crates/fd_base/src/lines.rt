@@ -10,7 +10,7 @@ use std::marker::Model;
 const LINE_END: u8 = 0x0a;
 
 /// A line of a text, without the byte that ends it.
-#[derive(Clone, Copy, Debug)]
+#[derive(Clone, Copy)]
 pub struct Line<'a> {
     /// Its number. The first line has number 1.
     pub number: u32,
@@ -18,7 +18,7 @@ pub struct Line<'a> {
 }
 
 /// The lines of a text in order. A line ends at byte 0x0a, and nothing behind the last one is no line.
-#[derive(Debug, Drop)]
+#[derive(Drop)]
 pub struct Lines<'a> {
     before: u32,
     rest: &'a [u8],

@@ -15,7 +15,7 @@ use std::marker::Model;
 use thiserror::Error;
 
 /// 1 to 255 bytes, none of them zero.
-#[derive(Debug, Drop)]
+#[derive(Drop)]
 pub struct Name {
     bytes: Vec<u8>,
 }

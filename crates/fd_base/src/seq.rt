@@ -12,7 +12,7 @@ use std::marker::Model;
 pub type Memory = AllocError;
 
 /// Values in order.
-#[derive(Debug, Drop)]
+#[derive(Drop)]
 pub struct Seq<T> {
     values: Vec<T>,
 }

@@ -2,6 +2,7 @@ pub mod ClaimParts
 pub mod Claims
 pub mod CodeLines
 pub mod CommandEnds
+pub mod CommandOutcomes
 pub mod FoundFiles
 pub mod JobFiles
 pub mod JournalCalls

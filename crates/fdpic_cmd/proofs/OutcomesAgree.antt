@@ -44,8 +44,8 @@ program_agrees : (plan : MemPlan) (name : List ℕ) (said : LoadRefusal → Refu
     → ProgramMeans plan name said told b → Agree a b
 program_agrees plan name said told a b (inl p) (inl q) =
     let same = loads_determined.same plan told name p.loaded q.loaded p.loads q.loads in
-    agree_same a b (writes (slot_listing q.loaded.process q.loaded.maps))
-    (p.lists ∙ ap (λ (l : Loaded). writes (slot_listing l.process l.maps)) same) q.lists
+    agree_same a b (writes (slot_listing q.loaded.modules.process q.loaded.modules.maps))
+    (p.lists ∙ ap (λ (l : Loaded). writes (slot_listing l.modules.process l.modules.maps)) same) q.lists
 program_agrees plan name said told a b (inl p) (inr q) = absurd (loads_determined.exclusive plan told name p.loaded q.refusal p.loads q.refused)
 program_agrees plan name said told a b (inr p) (inl q) = absurd (loads_determined.exclusive plan told name q.loaded p.refusal q.loads p.refused)
 program_agrees plan name said told a b (inr p) (inr q) =

@@ -23,14 +23,14 @@ from_none [] (suc k) h = refl
 from_none (y ∷ ys) zero h = absurd cc
 from_none (y ∷ ys) (suc k) h = from_none ys k h
 
-few_by : (l : Loaded) (m : ℕ) → IsConsistent l → (o : Option Object) → object_at l.process m ≡ o
-    → length (option_map_or (slot_pairs (linkage_of l.process) (placing_of l.process l.maps empty) m) o []) ≤ 65536
+few_by : (l : Loaded) (m : ℕ) → IsConsistent l → (o : Option Object) → object_at l.modules.process m ≡ o
+    → length (option_map_or (slot_pairs (linkage_of l.modules.process) (placing_of l.modules.process l.modules.maps empty) m) o []) ≤ 65536
 few_by l m h None e = omega arith
 few_by l m h (Some o) e = simp length-map (h.modules'.standing m o e).sound.few_slots
 
 -- a module has as many slots as its table may have entries
-pub few_slots : (l : Loaded) (m : ℕ) → IsConsistent l → length (slots_of_module l.process l.maps m) ≤ 65536
-few_slots l m h = few_by l m h (object_at l.process m) refl
+pub few_slots : (l : Loaded) (m : ℕ) → IsConsistent l → length (slots_of_module l.modules.process l.modules.maps m) ≤ 65536
+few_slots l m h = few_by l m h (object_at l.modules.process m) refl
 
 -- the lines of an item and of those behind it
 pub lines_there : {X : Type 0} (line : ℕ → X → List ℕ) (k : ℕ) (xs : List X) (x : X) (out before whole : List ℕ) → slice_get xs k ≡ Some x

@@ -15,7 +15,7 @@ use Rattle.fdpic_cmd.specs.Program.{IsBound, ProgramMeans, Lists, failure_by}
 use Rattle.fdpic_cmd.specs.Slots.{slot_listing}
 
 pub lists : (files : Option Files) (plan : MemPlan) (name : List ℕ) (l : Loaded) (text : List ℕ)
-    → LoadsProgram plan name files l → text ≡ slot_listing l.process l.maps → IfSome files (λ told. IsBound plan name told (writes text))
+    → LoadsProgram plan name files l → text ≡ slot_listing l.modules.process l.modules.maps → IfSome files (λ told. IsBound plan name told (writes text))
 lists None plan name l text h is = tt
 lists (Some told) plan name l text h is = record { loaded = l; loads = h; lists = ap writes is }
 

@@ -19,7 +19,7 @@ use Rattle.fdpic_cmd.specs.Slots.{slot_listing}
 pub record IsBound (plan : MemPlan) (name : List ℕ) (told : Files) (o : Outcome) : Type 0 where
   pub loaded : Loaded
   pub loads : IsProgramLoaded plan told name loaded
-  pub lists : o ≡ writes (slot_listing loaded.process loaded.maps)
+  pub lists : o ≡ writes (slot_listing loaded.modules.process loaded.modules.maps)
 
 -- loading is refused, and this is said of the refusal
 pub record IsUnbound (plan : MemPlan) (name : List ℕ) (said : LoadRefusal → Refusal) (told : Files) (o : Outcome) : Type 0 where

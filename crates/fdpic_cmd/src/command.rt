@@ -9,7 +9,7 @@ use fd_base::{Bytes, Memory, Name, NameErr, number};
 use std::alloc::{AllocError, Global};
 
 /// A command with its words.
-#[derive(Debug, Drop)]
+#[derive(Drop)]
 pub enum Command {
     /// `bind F TEXT DATA`: loads the program in file F, with its first two segments placed at these addresses,
     /// and prints the slots of its process.

@@ -1,4 +1,5 @@
-//! The commands of the program `fdpic`. Its one public function, `top`, carries each claim as a clause.
+//! The commands of the program `fdpic`. `top` carries each claim as a clause, and one law says that each command has an
+//! outcome.
 #![tactic(auto)]
 
 mod bind;
@@ -7,6 +8,7 @@ mod command;
 mod entry;
 mod files;
 mod job;
+mod laws;
 mod line;
 mod listing;
 mod program;
@@ -16,4 +18,5 @@ mod slot_listing;
 mod status;
 
 pub use entry::top;
+pub use laws::commands_come_to;
 pub use status::{Refusal, Status};

@@ -14,7 +14,7 @@ use fd_base::{Bytes, Memory, Name, Store};
 use std::alloc::Global;
 
 /// Which text of an object is asked for.
-#[derive(Clone, Copy, Debug)]
+#[derive(Clone, Copy)]
 pub enum ObjectText {
     /// What it holds, for `show F`.
     Listing,

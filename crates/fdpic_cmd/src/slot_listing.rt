@@ -27,7 +27,7 @@ fn put_slot_line(out: &mut Bytes, m: u32, k: u32, pair: &SlotPair) -> Result<(),
 /// Puts the lines of the slots of module `m`, of which there are none where no module has this number.
 fn put_slots(out: &mut Bytes, loader: &Loader, m: u32) -> Result<(), Memory>
     requires { IsConsistent loader.now.loaded }
-    ensures { OnOk result (out.new ≡ out.old ++ spec.module_lines loader.now.loaded.process loader.now.loaded.maps m) }
+    ensures { OnOk result (out.new ≡ out.old ++ spec.module_lines loader.now.loaded.modules.process loader.now.loaded.modules.maps m) }
 {
     for k in 0..MAX_ENTRIES as u32 {
         match loader.slot_pair(m, k) {
@@ -41,7 +41,7 @@ fn put_slots(out: &mut Bytes, loader: &Loader, m: u32) -> Result<(), Memory>
 /// The lines of the slots of all modules, by their numbers.
 pub fn slot_listing(alloc: Global, loader: &Loader) -> Result<Bytes, Memory>
     requires { IsConsistent loader.now.loaded }
-    ensures { IfOk result (λ text. text ≡ spec.slot_listing loader.now.loaded.process loader.now.loaded.maps) }
+    ensures { IfOk result (λ text. text ≡ spec.slot_listing loader.now.loaded.modules.process loader.now.loaded.modules.maps) }
 {
     let mut text = Bytes::new(alloc);
     for m in 0..MAX_MODULES {

@@ -11,7 +11,7 @@ use run_model::Stop;
 use std::alloc::AllocError;
 
 /// Why a command is refused.
-#[derive(Debug, Drop)]
+#[derive(Drop)]
 pub enum Refusal {
     /// The file of this name, which the words name, is no object: the first test that it fails.
     Elf(Name, ElfRefusal),
@@ -26,7 +26,7 @@ pub enum Refusal {
 }
 
 /// How the program ends.
-#[derive(Debug, Drop)]
+#[derive(Drop)]
 pub enum Status {
     /// The command is done.
     Done,
@@ -65,7 +65,7 @@ impl Status {
 }
 
 /// Why a command has no text.
-#[derive(Debug, Drop)]
+#[derive(Drop)]
 pub enum Failure {
     Refused(Refusal),
     StoreFault,

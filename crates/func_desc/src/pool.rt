@@ -15,7 +15,7 @@ pub struct Full;
 
 /// The address of each function's descriptor: a slot of the pool's own, or an address elsewhere that was
 /// adopted.
-#[derive(Debug, Drop)]
+#[derive(Drop)]
 pub struct DescPool {
     base: u32,
     slots: Vec<Option<Func>>,

@@ -16,7 +16,7 @@ use std::marker::Model;
 
 /// A guest's memory. Addresses count bytes from 0, and those below the size have a byte, a kind and a mark. All of
 /// its memory is taken by `new`.
-#[derive(Debug, Drop)]
+#[derive(Drop)]
 pub struct Guest {
     bytes: Vec<u8>,
     kinds: Vec<Option<MemKind>>,

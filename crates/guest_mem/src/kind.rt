@@ -1,7 +1,7 @@
 //! What bytes are mapped as, and why an access is refused.
 
 /// What a byte is mapped as.
-#[derive(Clone, Copy, Debug, PartialEq, Eq)]
+#[derive(Clone, Copy, PartialEq, Eq)]
 pub enum MemKind {
     /// Instructions. They are fetched and read, and always watched.
     Code,

@@ -15,7 +15,7 @@ use run_model::{Job, Turn, Turns};
 use std::alloc::Global;
 
 /// What statements give: the value of each kind that may be set once, and the place lines and turns.
-#[derive(Debug, Drop)]
+#[derive(Drop)]
 pub(crate) struct Given {
     program: Option<Name>,
     memory: Option<u32>,

@@ -4,7 +4,7 @@ ghost use Rattle.std.specs.Prelude.{◌≡◌};
 ghost use Rattle.job_text.specs.Limits.{is_within};
 
 /// Which numbers a field may have: from `least` to `most`, and multiples of `multiple` alone. Of 0 there are none.
-#[derive(Clone, Copy, Debug)]
+#[derive(Clone, Copy)]
 pub struct Bounds {
     pub least: u32,
     pub most: u32,
@@ -12,7 +12,7 @@ pub struct Bounds {
 }
 
 /// A number that one line of a job may set.
-#[derive(Clone, Copy, Debug)]
+#[derive(Clone, Copy)]
 pub struct Setting {
     pub bounds: Bounds,
     /// Its value where no line sets it.
@@ -20,7 +20,7 @@ pub struct Setting {
 }
 
 /// The limits of a format, and its defaults.
-#[derive(Clone, Copy, Debug)]
+#[derive(Clone, Copy)]
 pub struct Limits {
     /// How many bytes the memory has.
     pub memory: Setting,

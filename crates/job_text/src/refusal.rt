@@ -4,7 +4,7 @@ use std::alloc::AllocError;
 
 /// What is wrong with a line, or with a job as a whole. Of several causes the first line's is given, and of one line's
 /// the first in this order.
-#[derive(Clone, Copy, Debug, PartialEq, Eq)]
+#[derive(Clone, Copy, PartialEq, Eq)]
 pub enum JobKind {
     /// The first line isn't `fdpic-job 1`.
     First,
@@ -26,14 +26,14 @@ pub enum JobKind {
 
 /// The first cause, by its line. The first line has number 1, and a cause that no line has is given one line behind
 /// the last.
-#[derive(Clone, Copy, Debug, PartialEq, Eq)]
+#[derive(Clone, Copy, PartialEq, Eq)]
 pub struct JobRefusal {
     pub line: u32,
     pub kind: JobKind,
 }
 
 /// Why no job is answered.
-#[derive(Clone, Copy, Debug, PartialEq, Eq)]
+#[derive(Clone, Copy, PartialEq, Eq)]
 pub enum JobErr {
     /// The text is no job.
     Refused(JobRefusal),
@@ -42,7 +42,7 @@ pub enum JobErr {
 }
 
 /// Why a line is not taken.
-#[derive(Clone, Copy, Debug)]
+#[derive(Clone, Copy)]
 pub(crate) enum LineErr {
     /// This is wrong with it.
     Refused(JobKind),

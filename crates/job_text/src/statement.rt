@@ -14,7 +14,7 @@ use run_model::Turn;
 use std::alloc::Global;
 
 /// The word that a line begins with.
-#[derive(Clone, Copy, Debug)]
+#[derive(Clone, Copy)]
 pub(crate) enum Word {
     Program,
     Memory,
@@ -27,7 +27,7 @@ pub(crate) enum Word {
 }
 
 /// What a line says.
-#[derive(Debug, Drop)]
+#[derive(Drop)]
 pub(crate) enum Statement {
     Program(Name),
     Memory(u32),

@@ -1,5 +1,6 @@
 //! Values from outside: two slots, and an address elsewhere.
 
+use crate::checks::same;
 use elf_model::Func;
 use func_desc::{DescPool, Full};
 use std::test::Fail;
@@ -22,31 +23,31 @@ const LOCAL: Func = Func {
 #[test]
 fn one_address_for_each_function(rt: HostRuntime) -> Result<(), Fail> {
     let mut pool = DescPool::new(rt.alloc(), 0x3000, 2)?;
-    assert_eq!(rt; pool.free(), 2);
+    same(&rt, pool.free(), 2);
     assert_eq!(rt; pool.get(&LOCAL), None);
-    assert_eq!(rt; pool.free_at(0), Some(0x3000));
-    assert_eq!(rt; pool.free_at(1), Some(0x3008));
-    assert_eq!(rt; pool.free_at(2), None);
+    same(&rt, pool.free_at(0), Some(0x3000));
+    same(&rt, pool.free_at(1), Some(0x3008));
+    same(&rt, pool.free_at(2), None);
     pool.reserve(1)?;
     pool.adopt(&LOCAL, 0x80010);
-    assert_eq!(rt; pool.get(&LOCAL), Some(0x80010));
-    assert_eq!(rt; pool.ensure(&LOCAL), Ok(0x80010));
-    assert_eq!(rt; pool.free(), 2);
-    assert_eq!(rt; pool.ensure(&FOO), Ok(0x3000));
-    assert_eq!(rt; pool.ensure(&FOO), Ok(0x3000));
-    assert_eq!(rt; pool.free_at(0), Some(0x3008));
-    assert_eq!(rt; pool.ensure(&BAR), Ok(0x3008));
-    assert_eq!(rt; pool.free(), 0);
-    assert_eq!(rt; pool.free_at(0), None);
-    assert_eq!(rt; pool.get(&FOO), Some(0x3000));
+    same(&rt, pool.get(&LOCAL), Some(0x80010));
+    same(&rt, pool.ensure(&LOCAL), Ok(0x80010));
+    same(&rt, pool.free(), 2);
+    same(&rt, pool.ensure(&FOO), Ok(0x3000));
+    same(&rt, pool.ensure(&FOO), Ok(0x3000));
+    same(&rt, pool.free_at(0), Some(0x3008));
+    same(&rt, pool.ensure(&BAR), Ok(0x3008));
+    same(&rt, pool.free(), 0);
+    same(&rt, pool.free_at(0), None);
+    same(&rt, pool.get(&FOO), Some(0x3000));
     let other = Func {
         module: 2,
         value: 0x304,
     };
-    assert_eq!(rt; pool.ensure(&other), Err(Full));
-    assert_eq!(rt; pool.get(&other), None);
-    assert_eq!(rt; pool.ensure(&BAR), Ok(0x3008));
+    same(&rt, pool.ensure(&other), Err(Full));
+    same(&rt, pool.get(&other), None);
+    same(&rt, pool.ensure(&BAR), Ok(0x3008));
     let mut none = DescPool::new(rt.alloc(), 0xffff_ffff, 0)?;
-    assert_eq!(rt; none.ensure(&FOO), Err(Full));
+    same(&rt, none.ensure(&FOO), Err(Full));
     Ok(())
 }

@@ -1,9 +1,16 @@
 //! Values from outside: the words of an entry, and entries in an object.
 
+ghost use Rattle.std.specs.Prelude.{◌≤◌, length};
+ghost use Rattle.elf_model.specs.Sound.{IsSound};
+
 mod example;
 
+use crate::checks::{same, same_at};
+use elf_model::Object;
 use example::{CODE, DATA, object, put_words};
 use plt_code::{Entry, entries, entry_words, lazy_place, slot_entered};
+use std::alloc::Global;
+use std::process::Abort;
 use std::test::Fail;
 
 const NO_CODE: [u8; 0] = [];
@@ -15,16 +22,24 @@ fn data() -> [u8; 0x20] {
     bytes
 }
 
+/// Bytes with the words of an entry at a place.
+fn text_with(at: u32, words: &[u32; 10]) -> [u8; 0x300]
+    requires { at ≤ 0x2d8 }
+{
+    let mut bytes = [0; 0x300];
+    put_words(&mut bytes, at, words);
+    bytes
+}
+
 /// The bytes with the entry of slot 0 at 0x200.
 fn text() -> [u8; 0x300] {
-    let mut bytes = [0; 0x300];
-    put_words(&mut bytes, 0x200, &entry_words(12, 0));
-    bytes
+    text_with(0x200, &entry_words(12, 0))
 }
 
 #[test]
 fn ten_words(rt: HostRuntime) {
-    assert_eq!(rt;
+    same(
+        &rt,
         entry_words(12, 0).as_slice(),
         [
             0xe59f_c008,
@@ -38,21 +53,50 @@ fn ten_words(rt: HostRuntime) {
             0xe599_c004,
             0xe599_f000,
         ]
-        .as_slice()
+        .as_slice(),
     );
+}
+
+fn has_one_entry(rt: &impl Abort, alloc: Global, o: &Object) -> Result<(), Fail>
+    requires { IsSound o.now }
+{
+    let found = entries(alloc, o)?;
+    let entry = Entry { at: 0x200, slot: 0 };
+    same(rt, found.as_slice(), [entry].as_slice());
+    for (at, slot) in [(0x200, Some(0)), (0x218, None), (0xffff_fffc, None)] {
+        same_at(rt, at, slot_entered(o, at), slot);
+    }
+    for (slot, place) in [(0, Some(0x218)), (1, None), (2, None)] {
+        same_at(rt, slot, lazy_place(o, slot), place);
+    }
+    Ok(())
 }
 
 #[test]
 fn an_entry_and_its_lazy_call(rt: HostRuntime) -> Result<(), Fail> {
     let o = object(rt.alloc(), CODE, &text(), &NO_CODE, &data())?;
-    let found = entries(rt.alloc(), &o)?;
-    assert_eq!(rt; found.as_slice(), [Entry { at: 0x200, slot: 0 }].as_slice());
-    assert_eq!(rt; slot_entered(&o, 0x200), Some(0));
-    assert_eq!(rt; slot_entered(&o, 0x218), None);
-    assert_eq!(rt; slot_entered(&o, 0xffff_fffc), None);
-    assert_eq!(rt; lazy_place(&o, 0), Some(0x218));
-    assert_eq!(rt; lazy_place(&o, 1), None);
-    assert_eq!(rt; lazy_place(&o, 2), None);
+    has_one_entry(&rt, rt.alloc(), &o)
+}
+
+fn has_four_entries(rt: &impl Abort, alloc: Global, o: &Object) -> Result<(), Fail>
+    requires { IsSound o.now }
+{
+    let found = entries(alloc, o)?;
+    let rows = [
+        Entry { at: 0x200, slot: 0 },
+        Entry { at: 0x240, slot: 1 },
+        Entry { at: 0x2a0, slot: 0 },
+        Entry {
+            at: 0x8000,
+            slot: 1,
+        },
+    ];
+    same(rt, found.as_slice(), rows.as_slice());
+    for entry in rows {
+        same(rt, slot_entered(o, entry.at), Some(entry.slot));
+    }
+    same(rt, lazy_place(o, 0), Some(0x218));
+    same(rt, lazy_place(o, 1), Some(0x258));
     Ok(())
 }
 
@@ -64,32 +108,26 @@ fn entries_rise_over_segments(rt: HostRuntime) -> Result<(), Fail> {
     let mut high = [0; 0x28];
     put_words(&mut high, 0, &entry_words(20, 8));
     let o = object(rt.alloc(), CODE, &low, &high, &data())?;
-    let found = entries(rt.alloc(), &o)?;
-    let rows = [
-        Entry { at: 0x200, slot: 0 },
-        Entry { at: 0x240, slot: 1 },
-        Entry { at: 0x2a0, slot: 0 },
-        Entry {
-            at: 0x8000,
-            slot: 1,
-        },
-    ];
-    assert_eq!(rt; found.as_slice(), rows.as_slice());
-    for entry in rows {
-        assert_eq!(rt; slot_entered(&o, entry.at), Some(entry.slot));
-    }
-    assert_eq!(rt; lazy_place(&o, 0), Some(0x218));
-    assert_eq!(rt; lazy_place(&o, 1), Some(0x258));
-    Ok(())
+    has_four_entries(&rt, rt.alloc(), &o)
+}
+
+/// Whether these bytes, in a segment of these flags, have the entry of slot 0 at 0x200, or else none.
+fn is_entry(rt: &impl Abort, alloc: Global, flags: u32, low: &[u8]) -> Result<bool, Fail>
+    requires { length low.now ≤ 0x400 }
+{
+    let o = object(alloc, flags, low, &NO_CODE, &data())?;
+    let found = entries(alloc, &o)?;
+    let first = found.as_slice().first().copied();
+    let entered = slot_entered(&o, 0x200).map(|slot| Entry { at: 0x200, slot });
+    same(rt, (first, found.len() <= 1), (entered, true));
+    Ok(first.is_some())
 }
 
 #[test]
 fn no_entries(rt: HostRuntime) -> Result<(), Fail> {
     let whole = text();
-    let mut moved = [0; 0x300];
-    put_words(&mut moved, 0x202, &entry_words(12, 0));
-    let mut of_no_slot = [0; 0x300];
-    put_words(&mut of_no_slot, 0x200, &entry_words(16, 0));
+    let moved = text_with(0x202, &entry_words(12, 0));
+    let of_no_slot = text_with(0x200, &entry_words(16, 0));
     let rows = [
         (CODE, &whole[..0x210], false),
         (CODE, &whole[..0x214], true),
@@ -97,30 +135,31 @@ fn no_entries(rt: HostRuntime) -> Result<(), Fail> {
         (CODE, moved.as_slice(), false),
         (CODE, of_no_slot.as_slice(), false),
     ];
-    for (flags, low, is_entry) in rows {
+    for (flags, low, wanted) in rows {
         assert!(rt; low.len() <= 0x400);
-        let o = object(rt.alloc(), flags, low, &NO_CODE, &data())?;
-        let found = entries(rt.alloc(), &o)?;
-        assert_eq!(rt; slot_entered(&o, 0x200).is_some(), is_entry);
-        assert_eq!(rt;
-            found.as_slice(),
-            if is_entry {
-                [Entry { at: 0x200, slot: 0 }].as_slice()
-            } else {
-                [].as_slice()
-            }
-        );
+        same(&rt, is_entry(&rt, rt.alloc(), flags, low)?, wanted);
     }
     Ok(())
+}
+
+/// Where slot 0 leads before it is bound, in an object of these bytes.
+fn lazy_place_in(
+    alloc: Global,
+    flags: u32,
+    low: &[u8],
+    got: &[u8; 0x20],
+) -> Result<Option<u32>, Fail>
+    requires { length low.now ≤ 0x400 }
+{
+    let o = object(alloc, flags, low, &NO_CODE, got)?;
+    Ok(lazy_place(&o, 0))
 }
 
 #[test]
 fn no_lazy_calls(rt: HostRuntime) -> Result<(), Fail> {
     let whole = text();
-    let mut of_slot_1 = [0; 0x300];
-    put_words(&mut of_slot_1, 0x200, &entry_words(12, 8));
-    let mut moved = [0; 0x300];
-    put_words(&mut moved, 0x202, &entry_words(12, 0));
+    let of_slot_1 = text_with(0x200, &entry_words(12, 8));
+    let moved = text_with(0x202, &entry_words(12, 0));
     let mut into_moved = data();
     put_words(&mut into_moved, 0xc, &[0x21a]);
     let rows = [
@@ -132,8 +171,7 @@ fn no_lazy_calls(rt: HostRuntime) -> Result<(), Fail> {
     ];
     for (flags, low, got, place) in rows {
         assert!(rt; low.len() <= 0x400);
-        let o = object(rt.alloc(), flags, low, &NO_CODE, &got)?;
-        assert_eq!(rt; lazy_place(&o, 0), place);
+        same(&rt, lazy_place_in(rt.alloc(), flags, low, &got)?, place);
     }
     Ok(())
 }

@@ -1,5 +1,6 @@
 //! Values from outside: a map of two segments.
 
+use crate::checks::same;
 use load_map::{LoadMap, MapEntry};
 use rofixup::{Outside, apply, emit};
 use std::alloc::Global;
@@ -25,8 +26,8 @@ fn two_segments(alloc: Global) -> Result<LoadMap, Fail> {
 fn values_are_replaced(rt: HostRuntime) -> Result<(), Fail> {
     let map = two_segments(rt.alloc())?;
     let mut values = [0x8, 0x10010];
-    assert_eq!(rt; apply(&map, &mut values), Ok(()));
-    assert_eq!(rt; values.as_slice(), [0x20008, 0x30010].as_slice());
+    same(&rt, apply(&map, &mut values), Ok(()));
+    same(&rt, values.as_slice(), [0x20008, 0x30010].as_slice());
     Ok(())
 }
 
@@ -34,20 +35,24 @@ fn values_are_replaced(rt: HostRuntime) -> Result<(), Fail> {
 fn all_stay_where_one_has_no_place(rt: HostRuntime) -> Result<(), Fail> {
     let map = two_segments(rt.alloc())?;
     let mut values = [0x8, 0x50000];
-    assert_eq!(rt; apply(&map, &mut values), Err(Outside(1)));
-    assert_eq!(rt; values.as_slice(), [0x8, 0x50000].as_slice());
+    same(&rt, apply(&map, &mut values), Err(Outside(1)));
+    same(&rt, values.as_slice(), [0x8, 0x50000].as_slice());
     let mut more = [0x8, 0x50000, 0x10, 0x60000];
-    assert_eq!(rt; apply(&map, &mut more), Err(Outside(1)));
+    same(&rt, apply(&map, &mut more), Err(Outside(1)));
     let mut none: [u32; 0] = [];
-    assert_eq!(rt; apply(&map, &mut none), Ok(()));
+    same(&rt, apply(&map, &mut none), Ok(()));
     Ok(())
 }
 
 #[test]
 fn the_got_is_last(rt: HostRuntime) -> Result<(), Fail> {
     let entries = emit(rt.alloc(), &[0x10020, 0x10024], 0x10000)?;
-    assert_eq!(rt; entries.as_slice(), [0x10020, 0x10024, 0x10000].as_slice());
+    same(
+        &rt,
+        entries.as_slice(),
+        [0x10020, 0x10024, 0x10000].as_slice(),
+    );
     let alone = emit(rt.alloc(), &[], 0x10000)?;
-    assert_eq!(rt; alone.as_slice(), [0x10000].as_slice());
+    same(&rt, alone.as_slice(), [0x10000].as_slice());
     Ok(())
 }

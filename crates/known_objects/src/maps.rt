@@ -1,5 +1,6 @@
 //! Values from outside: a map of two segments, and the edges of the largest.
 
+use crate::checks::{same, same_at};
 use fd_base::Seq;
 use load_map::{LoadMap, MapEntry, is_placed_at, map_at, placed};
 use std::test::Fail;
@@ -32,16 +33,17 @@ fn two_segments(rt: HostRuntime) -> Result<(), Fail> {
         (LAST, None),
     ];
     for (v, addr) in rows {
-        assert_eq!(rt; map.translate(v), addr, "at {v}");
+        same_at(&rt, v, map.translate(v), addr);
     }
     for (v, addr) in rows {
-        assert_eq!(rt; placed(map.as_slice(), v), addr.unwrap_or(0), "at {v}");
+        same_at(&rt, v, placed(map.as_slice(), v), addr.unwrap_or(0));
     }
     let image = map.image();
     let text = hex::encode(rt.alloc(), image.as_slice())?;
-    assert_eq!(rt;
+    same(
+        &rt,
         text.as_str(),
-        "00000200000002000000000000040000000008000000010000010000"
+        "00000200000002000000000000040000000008000000010000010000",
     );
     Ok(())
 }
@@ -72,17 +74,18 @@ fn eight_segments_up_to_the_last_address(rt: HostRuntime) -> Result<(), Fail> {
         (8, None),
     ];
     for (v, addr) in rows {
-        assert_eq!(rt; map.translate(v), addr, "at {v}");
+        same_at(&rt, v, map.translate(v), addr);
     }
     let image = map.image();
-    assert_eq!(rt; image.as_slice().len(), 100);
-    assert_eq!(rt;
+    same(&rt, image.as_slice().len(), 100);
+    same(
+        &rt,
         &image.as_slice()[..16],
-        [0, 0, 8, 0, 0, 0x20, 0, 0, 7, 0, 0, 0, 0, 0, 0, 0].as_slice()
+        [0, 0, 8, 0, 0, 0x20, 0, 0, 7, 0, 0, 0, 0, 0, 0, 0].as_slice(),
     );
     let empty = LoadMap::new(rt.alloc(), &[])?;
-    assert_eq!(rt; empty.translate(0), None);
-    assert_eq!(rt; empty.image().as_slice(), [0, 0, 0, 0].as_slice());
+    same(&rt, empty.translate(0), None);
+    same(&rt, empty.image().as_slice(), [0, 0, 0, 0].as_slice());
     Ok(())
 }
 
@@ -101,11 +104,11 @@ fn places_of_modules(rt: HostRuntime) -> Result<(), Fail> {
         (0, false),
     ];
     for (addr, is_placed) in rows {
-        assert_eq!(rt; is_placed_at(&entry, addr), is_placed, "at {addr}");
+        same_at(&rt, addr, is_placed_at(&entry, addr), is_placed);
     }
     let maps = [Seq::new(rt.alloc()), Seq::from_slice(rt.alloc(), &[entry])?];
-    assert_eq!(rt; map_at(&maps, 0), [].as_slice());
-    assert_eq!(rt; map_at(&maps, 1), [entry].as_slice());
-    assert_eq!(rt; map_at(&maps, 2), [].as_slice());
+    same(&rt, map_at(&maps, 0), [].as_slice());
+    same(&rt, map_at(&maps, 1), [entry].as_slice());
+    same(&rt, map_at(&maps, 2), [].as_slice());
     Ok(())
 }

@@ -1,7 +1,12 @@
-ghost use Rattle.std.specs.Prelude.{◌≡◌};
+//! Values from outside: which addresses items get, and what is refused.
 
+ghost use Rattle.std.specs.Prelude.{◌≡◌, ◌+◌, ◌^◌, ◌<◌, All, OnOk, length};
+ghost use Rattle.placement.specs.Space.{IsOwned};
+
+use crate::checks::same;
 use fd_base::Seq;
 use placement::{Addrs, Item, Items, PlaceErr, Ranges};
+use std::process::Abort;
 use std::test::Fail;
 
 fn item(owner: u32, vaddr: u32, memsz: u32, align: u32, at: Option<u32>) -> Item
@@ -17,41 +22,52 @@ fn item(owner: u32, vaddr: u32, memsz: u32, align: u32, at: Option<u32>) -> Item
     }
 }
 
+/// The items are placed at these addresses, which are held from then on.
+fn places(rt: &impl Abort, ranges: &mut Ranges, items: &Items, wanted: &[u32]) -> Result<(), Fail>
+    requires owners { All IsOwned items.now }
+    requires few { length ranges.old.held + length items.now < 2 ^ 32 }
+    requires sizes { All (λ item. 0 < item.memsz) items.now }
+    ensures count { OnOk result (length ranges.new.held ≡ length ranges.old.held + length items.now) }
+{
+    let addrs = ranges.plan(items)?;
+    same(rt, addrs.as_slice(), wanted);
+    ranges.take(items, &addrs);
+    Ok(())
+}
+
+/// This item has no place.
+fn has_no_room(rt: &impl Abort, ranges: &mut Ranges, items: &Items, wanted: u32) -> Result<(), Fail>
+    requires owners { All IsOwned items.now }
+    requires few { length ranges.old.held + length items.now < 2 ^ 32 }
+    requires sizes { All (λ item. 0 < item.memsz) items.now }
+    ensures held { OnOk result (ranges.new.held ≡ ranges.old.held) }
+{
+    match ranges.plan(items) {
+        Ok(_) => Err("placed")?,
+        Err(PlaceErr::NoRoom(i)) => same(rt, i, wanted),
+        Err(PlaceErr::Memory) => Err("memory")?,
+    }
+    Ok(())
+}
+
 #[test]
 fn lowest_listed_and_released(rt: HostRuntime) -> Result<(), Fail> {
     let alloc = rt.alloc();
     let mut ranges = Ranges::new(alloc, 0x3200, 0xf0000)?;
-    let first = Seq::from_slice(
-        alloc,
-        &[
-            item(1, 0x10f0c, 0x20, 0x10000, None),
-            item(1, 0, 0x30, 1, None),
-        ],
-    )?;
-    let addrs = ranges.plan(&first)?;
-    assert_eq!(rt; addrs.as_slice(), [0x3f0c, 0x3200].as_slice());
-    ranges.take(&first, &addrs);
-    let second = Seq::from_slice(
-        alloc,
-        &[
-            item(2, 0, 4, 1, Some(0x3240)),
-            item(2, 0, 4, 1, Some(0x3f10)),
-        ],
-    )?;
-    match ranges.plan(&second) {
-        Ok(_) => Err("placed over a held range")?,
-        Err(PlaceErr::NoRoom(i)) => assert_eq!(rt; i, 1),
-        Err(PlaceErr::Memory) => Err("memory")?,
-    }
+    let free = [
+        item(1, 0x10f0c, 0x20, 0x10000, None),
+        item(1, 0, 0x30, 1, None),
+    ];
+    let free = Seq::from_slice(alloc, &free)?;
+    places(&rt, &mut ranges, &free, &[0x3f0c, 0x3200])?;
+    let listed = [
+        item(2, 0, 4, 1, Some(0x3240)),
+        item(2, 0, 4, 1, Some(0x3f10)),
+    ];
+    let listed = Seq::from_slice(alloc, &listed)?;
+    has_no_room(&rt, &mut ranges, &listed, 1)?;
     ranges.release(1);
-    let addrs = ranges.plan(&second)?;
-    assert_eq!(rt; addrs.as_slice(), [0x3240, 0x3f10].as_slice());
-    ranges.take(&second, &addrs);
-    let high = Seq::from_slice(alloc, &[item(3, 0x3210, 0xecdf1, 16, None)])?;
-    match ranges.plan(&high) {
-        Ok(_) => Err("placed past the high address")?,
-        Err(PlaceErr::NoRoom(i)) => assert_eq!(rt; i, 0),
-        Err(PlaceErr::Memory) => Err("memory")?,
-    }
-    Ok(())
+    places(&rt, &mut ranges, &listed, &[0x3240, 0x3f10])?;
+    let large = Seq::from_slice(alloc, &[item(3, 0x3210, 0xecdf1, 16, None)])?;
+    has_no_room(&rt, &mut ranges, &large, 0)
 }

@@ -1,10 +1,12 @@
 //! Objects written out word by word, and the same with one word changed.
 
-use elf_model::{Extent, Inits, Kind, Place, Rel, hash};
+use crate::checks::{holds, holds_at, same, same_at};
+use elf_model::{Extent, Inits, Kind, Object, Place, Rel, Symbol, hash};
 use elf_read::ElfKind::*;
 use elf_read::{ElfKind, ReadErr, read_object};
-use fd_base::Name;
+use fd_base::{Name, Seq};
 use std::alloc::{AllocError, Global};
+use std::process::Abort;
 use std::test::Fail;
 
 /// A shared object with the headers, tags and flags that linkers write beside those that are looked at. The text is
@@ -339,6 +341,16 @@ fn whole(alloc: Global, change: Option<(usize, u32)>) -> Result<Vec<u8>, AllocEr
     file(alloc, &WHOLE, change)
 }
 
+/// How the file is refused of which one word is changed.
+fn refusal_of(
+    alloc: Global,
+    place: usize,
+    word: u32,
+) -> Result<Option<(ElfKind, u32)>, AllocError> {
+    let bytes = whole(alloc, Some((place, word)))?;
+    Ok(refusal(alloc, &bytes))
+}
+
 /// How bytes are refused. None where they are an object, are too long for these tests, or memory is wanted.
 fn refusal(alloc: Global, bytes: &[u8]) -> Option<(ElfKind, u32)> {
     if bytes.len() > 10_000 {
@@ -351,52 +363,50 @@ fn refusal(alloc: Global, bytes: &[u8]) -> Option<(ElfKind, u32)> {
     }
 }
 
-#[test]
-fn segments(rt: HostRuntime) -> Result<(), Fail> {
-    let bytes = whole(rt.alloc(), None)?;
-    assert_eq!(rt; bytes.len(), 712);
-    let o = read_object(rt.alloc(), &bytes).ok().ok_or("refused")?;
-    assert_eq!(rt; (o.kind, o.entry, o.got), (Kind::Dyn, 244, 0x10000));
+/// The object of a file of 712 bytes.
+fn object_of(alloc: Global, bytes: &[u8]) -> Result<Object, Fail> {
+    if bytes.len() != 712 {
+        return Err("another length")?;
+    }
+    Ok(read_object(alloc, bytes).ok().ok_or("refused")?)
+}
+
+fn has_segments(rt: &impl Abort, o: &Object, bytes: &[u8]) {
+    same(rt, (o.kind, o.entry, o.got), (Kind::Dyn, 244, 0x10000));
     let wanted = [
         (0, 0x400, 5, bytes.get(..552)),
         (0x10000, 0x100, 6, bytes.get(552..592)),
     ];
-    assert_eq!(rt; o.segments.len(), wanted.len());
+    same(rt, o.segments.len(), wanted.len());
     for (s, (vaddr, memsz, flags, filled)) in o.segments.as_slice().iter().zip(wanted) {
-        assert_eq!(rt;
-            (s.vaddr, s.memsz, s.flags, s.align),
-            (vaddr, memsz, flags, 0x10000)
+        same(
+            rt,
+            [s.vaddr, s.memsz, s.flags, s.align],
+            [vaddr, memsz, flags, 0x10000],
         );
-        assert_eq!(rt; Some(s.filled.as_slice()), filled);
+        same(rt, Some(s.filled.as_slice()), filled);
     }
-    Ok(())
 }
 
-#[test]
-fn tables(rt: HostRuntime) -> Result<(), Fail> {
-    let bytes = whole(rt.alloc(), None)?;
-    assert_eq!(rt; bytes.len(), 712);
-    let o = read_object(rt.alloc(), &bytes).ok().ok_or("refused")?;
-    assert_eq!(rt; o.needed.len(), 1);
-    assert_eq!(rt; o.needed.as_slice()[0].as_slice(), b"lib".as_slice());
-    assert_eq!(rt;
-        o.soname.as_ref().map(Name::as_slice),
-        Some(b"me".as_slice())
-    );
+fn has_tables(rt: &impl Abort, o: &Object) {
+    let needed = o.needed.as_slice().first().map(Name::as_slice);
+    same(rt, (o.needed.len(), needed), (1, Some(b"lib".as_slice())));
+    let soname = o.soname.as_ref().map(Name::as_slice);
+    same(rt, soname, Some(b"me".as_slice()));
     let own = [(0x10014, 23, 0), (0x10018, 2, 1), (0x1001c, 163, 2)];
-    assert_eq!(rt; o.rels.len(), own.len());
+    same(rt, o.rels.len(), own.len());
     for (rel, (site, kind, symbol)) in o.rels.as_slice().iter().zip(own) {
-        assert_eq!(rt; *rel, Rel { site, kind, symbol });
+        same(rt, *rel, Rel { site, kind, symbol });
     }
     let slot = Rel {
         site: 0x1000c,
         kind: 164,
         symbol: 2,
     };
-    assert_eq!(rt; o.jmprels.as_slice(), [slot].as_slice());
-    let fixups = o.fixups.as_ref().ok_or("no fixups")?;
-    assert_eq!(rt; fixups.as_slice(), [0x10020, 0x10024].as_slice());
-    assert!(rt; o.symbolic && o.now);
+    same(rt, o.jmprels.as_slice(), [slot].as_slice());
+    let fixups = o.fixups.as_ref().map(Seq::as_slice);
+    same(rt, fixups, Some([0x10020, 0x10024].as_slice()));
+    holds(rt, o.symbolic && o.now);
     let inits = Inits {
         init: Some(244),
         fini: None,
@@ -406,35 +416,40 @@ fn tables(rt: HostRuntime) -> Result<(), Fail> {
         }),
         fini_array: None,
     };
-    assert_eq!(rt; o.inits, inits);
+    holds(rt, o.inits == inits);
+}
+
+/// A symbol that is defined in the object, by its name, its value and size, and its binding, kind and visibility.
+fn is_symbol(rt: &impl Abort, symbol: &Symbol, name: &[u8], extent: [u32; 2], kinds: [u8; 3]) {
+    same(rt, symbol.name.as_ref().map(Name::as_slice), Some(name));
+    same(rt, [symbol.value, symbol.size], extent);
+    same(rt, [symbol.binding, symbol.kind, symbol.visibility], kinds);
+    holds(rt, symbol.place == Place::Here);
+}
+
+fn has_symbols(rt: &impl Abort, o: &Object) {
+    match o.symbols.as_slice() {
+        [null, x, f] => {
+            holds(rt, null.name.is_none() && null.place == Place::Undefined);
+            is_symbol(rt, x, b"x", [0x10020, 4], [1, 1, 0]);
+            is_symbol(rt, f, b"f", [244, 4], [1, 2, 2]);
+        }
+        other => same(rt, other.len(), 3),
+    }
+}
+
+#[test]
+fn an_object(rt: HostRuntime) -> Result<(), Fail> {
+    let bytes = whole(rt.alloc(), None)?;
+    let o = object_of(rt.alloc(), &bytes)?;
+    has_segments(&rt, &o, &bytes);
+    has_tables(&rt, &o);
+    has_symbols(&rt, &o);
     Ok(())
 }
 
 #[test]
-fn symbols(rt: HostRuntime) -> Result<(), Fail> {
-    let bytes = whole(rt.alloc(), None)?;
-    assert_eq!(rt; bytes.len(), 712);
-    let o = read_object(rt.alloc(), &bytes).ok().ok_or("refused")?;
-    assert_eq!(rt; o.symbols.len(), 3);
-    let (null, x, f) = (
-        &o.symbols.as_slice()[0],
-        &o.symbols.as_slice()[1],
-        &o.symbols.as_slice()[2],
-    );
-    assert!(rt; null.name.is_none() && null.place == Place::Undefined);
-    let name = x.name.as_ref().ok_or("no name")?;
-    assert_eq!(rt; name.as_slice(), b"x".as_slice());
-    assert_eq!(rt;
-        (x.value, x.size, x.binding, x.kind, x.visibility),
-        (0x10020, 4, 1, 1, 0)
-    );
-    let name = f.name.as_ref().ok_or("no name")?;
-    assert_eq!(rt; name.as_slice(), b"f".as_slice());
-    assert_eq!(rt;
-        (f.value, f.size, f.binding, f.kind, f.visibility),
-        (244, 4, 1, 2, 2)
-    );
-    assert!(rt; x.place == Place::Here && f.place == Place::Here);
+fn hashes(rt: HostRuntime) -> Result<(), Fail> {
     for (text, wanted) in [
         ("ab", 0x672),
         ("printf", 0x0779_05a6),
@@ -443,7 +458,7 @@ fn symbols(rt: HostRuntime) -> Result<(), Fail> {
         let name = Name::new(rt.alloc(), text.as_bytes())
             .ok()
             .ok_or("no name")?;
-        assert_eq!(rt; hash(&name), wanted, "{text}");
+        same_at(&rt, text, hash(&name), wanted);
     }
     Ok(())
 }
@@ -451,43 +466,41 @@ fn symbols(rt: HostRuntime) -> Result<(), Fail> {
 #[test]
 fn refusals(rt: HostRuntime) -> Result<(), Fail> {
     for (place, word, kind, at) in REFUSALS {
-        let bytes = whole(rt.alloc(), Some((place, word)))?;
-        assert_eq!(rt;
-            refusal(rt.alloc(), &bytes),
-            Some((kind, at)),
-            "{word} at {place}"
-        );
+        let refused = refusal_of(rt.alloc(), place, word)?;
+        holds_at(&rt, place, refused == Some((kind, at)));
     }
     // The list of fixups names the GOT too.
-    let bytes = whole(rt.alloc(), Some((472, 21)))?;
-    assert_eq!(rt; refusal(rt.alloc(), &bytes), None);
+    holds(&rt, refusal_of(rt.alloc(), 472, 21)?.is_none());
     Ok(())
+}
+
+/// Each shorter file is refused: within the ELF header, within the headers behind it, and past those in one way.
+fn has_no_prefix(
+    rt: &impl Abort,
+    alloc: Global,
+    bytes: &[u8],
+    headers: usize,
+    past: (ElfKind, u32),
+) {
+    for len in 0..bytes.len() {
+        let wanted = if len < 52 {
+            (Short, len as u32)
+        } else if len < headers {
+            (Header, 28)
+        } else {
+            past
+        };
+        holds_at(rt, len, refusal(alloc, &bytes[..len]) == Some(wanted));
+    }
 }
 
 #[test]
 fn prefixes(rt: HostRuntime) -> Result<(), Fail> {
     let plain = file(rt.alloc(), &PLAIN, None)?;
-    assert_eq!(rt; refusal(rt.alloc(), &plain), None);
-    let files = [
-        (whole(rt.alloc(), None)?, 244, Header, 32),
-        (plain, 148, SegmentRange, 84),
-    ];
-    for (bytes, headers, kind, at) in &files {
-        for len in 0..bytes.len() {
-            let wanted = if len < 52 {
-                (Short, len as u32)
-            } else if len < *headers {
-                (Header, 28)
-            } else {
-                (*kind, *at)
-            };
-            assert_eq!(rt;
-                refusal(rt.alloc(), &bytes[..len]),
-                Some(wanted),
-                "{len} bytes"
-            );
-        }
-    }
+    holds(&rt, refusal(rt.alloc(), &plain).is_none());
+    has_no_prefix(&rt, rt.alloc(), &plain, 148, (SegmentRange, 84));
+    let whole = whole(rt.alloc(), None)?;
+    has_no_prefix(&rt, rt.alloc(), &whole, 244, (Header, 32));
     Ok(())
 }
 
@@ -529,12 +542,12 @@ fn limits(rt: HostRuntime) -> Result<(), Fail> {
     let rows = [(8, Some((NoGot, 28))), (9, Some((TooMany, 308)))];
     for (count, wanted) in rows {
         let bytes = many_segments(rt.alloc(), count)?;
-        assert_eq!(rt; refusal(rt.alloc(), &bytes), wanted, "{count} segments");
+        holds_at(&rt, count, refusal(rt.alloc(), &bytes) == wanted);
     }
     let rows = [(64, None), (65, Some((TooMany, 644)))];
     for (count, wanted) in rows {
         let bytes = many_needed(rt.alloc(), count)?;
-        assert_eq!(rt; refusal(rt.alloc(), &bytes), wanted, "{count} needed names");
+        holds_at(&rt, count, refusal(rt.alloc(), &bytes) == wanted);
     }
     Ok(())
 }

@@ -1,5 +1,6 @@
 //! Values from outside: words of branches, and formulas at their edges.
 
+use crate::checks::same_at;
 use arm_relocs::{apply_value, branch_addend, branch_field};
 
 #[test]
@@ -14,8 +15,8 @@ fn branches(rt: HostRuntime) {
         (0x0080_0001, -33_554_428),
     ];
     for (word, d) in held {
-        assert_eq!(rt; branch_addend(word), d, "of {word:x}");
-        assert_eq!(rt; branch_field(word, d), Some(word), "into {word:x}");
+        same_at(&rt, word, branch_addend(word), d);
+        same_at(&rt, word, branch_field(word, d), Some(word));
     }
     let put = [
         (0xebff_fffe, 0xf8, Some(0xeb00_003e)),
@@ -32,7 +33,7 @@ fn branches(rt: HostRuntime) {
         (0xea00_0000, i32::MIN, None),
     ];
     for (word, d, field) in put {
-        assert_eq!(rt; branch_field(word, d), field, "{d} into {word:x}");
+        same_at(&rt, word, branch_field(word, d), field);
     }
 }
 
@@ -59,6 +60,6 @@ fn values(rt: HostRuntime) {
         (255, 1, 1, 0, None),
     ];
     for (kind, s, a, p, value) in rows {
-        assert_eq!(rt; apply_value(kind, s, a, p, got), value, "kind {kind}");
+        same_at(&rt, kind, apply_value(kind, s, a, p, got), value);
     }
 }

@@ -1,11 +1,12 @@
 //! Values from outside: which definition wins, what is exported, and the order of a closure.
 
+use crate::checks::{same, same_at};
 use elf_model::{Inits, Kind, Object, Place, Symbol};
 use fd_base::{Name, Numbers, Seq};
 use std::alloc::Global;
 use std::process::Abort;
 use std::test::Fail;
-use symbol_scope::{Found, MAX_MODULES, Tables};
+use symbol_scope::{MAX_MODULES, Tables};
 
 fn symbol(
     alloc: Global,
@@ -72,48 +73,69 @@ const FUNC: u8 = 2;
 
 const HERE: Place = Place::Here;
 
-#[test]
-fn first_definition_wins(rt: HostRuntime) -> Result<(), Fail> {
-    let alloc = rt.alloc();
-    let foo = Name::new(alloc, b"foo")?;
-    let mut tables = Tables::new(alloc);
+/// A program without definitions, a library that defines `foo` twice behind another name, and one that defines it once.
+fn add_three(rt: &impl Abort, alloc: Global, tables: &mut Tables) -> Result<(), Fail> {
     let program = vec![in alloc; symbol(alloc, b"foo", (1, FUNC, 0), Place::Undefined)?]?;
+    enter(rt, alloc, tables, 0, &[], program)?;
     let weak = vec![in alloc;
         symbol(alloc, b"bar", (1, FUNC, 0), HERE)?,
         symbol(alloc, b"foo", (2, FUNC, 0), HERE)?,
         symbol(alloc, b"foo", (1, FUNC, 0), HERE)?,
     ]?;
+    enter(rt, alloc, tables, 1, &[], weak)?;
     let global = vec![in alloc; symbol(alloc, b"foo", (1, FUNC, 0), HERE)?]?;
-    enter(&rt, alloc, &mut tables, 0, &[], program)?;
-    enter(&rt, alloc, &mut tables, 1, &[], weak)?;
-    enter(&rt, alloc, &mut tables, 2, &[], global)?;
-    let rows = [
+    enter(rt, alloc, tables, 2, &[], global)
+}
+
+/// The module and the symbol that a name leads to in a scope.
+fn found(
+    alloc: Global,
+    tables: &Tables,
+    scope: &[u32],
+    name: &[u8],
+) -> Result<Option<(u32, u32)>, Fail> {
+    let scope = Numbers::from_slice(alloc, scope)?;
+    let found = tables.find(&scope, &Name::new(alloc, name)?);
+    Ok(found.map(|found| (found.module, found.symbol)))
+}
+
+#[test]
+fn first_definition_wins(rt: HostRuntime) -> Result<(), Fail> {
+    let alloc = rt.alloc();
+    let mut tables = Tables::new(alloc);
+    add_three(&rt, alloc, &mut tables)?;
+    for (scope, wanted) in [
         ([0, 1, 2].as_slice(), Some((1, 1))),
         ([0, 2, 1].as_slice(), Some((2, 0))),
         ([0].as_slice(), None),
         ([7, 64, 2].as_slice(), Some((2, 0))),
         ([].as_slice(), None),
-    ];
-    for (scope, found) in rows {
-        let scope = Numbers::from_slice(alloc, scope)?;
-        let found = found.map(|(module, symbol)| Found { module, symbol });
-        assert_eq!(rt; tables.find(&scope, &foo), found);
+    ] {
+        same(&rt, found(alloc, &tables, scope, b"foo")?, wanted);
     }
     tables.remove(1);
-    let scope = Numbers::from_slice(alloc, &[0, 1, 2])?;
-    assert_eq!(rt;
-        tables.find(&scope, &foo),
-        Some(Found {
-            module: 2,
-            symbol: 0
-        })
-    );
+    let first = found(alloc, &tables, &[0, 1, 2], b"foo")?;
+    same(&rt, first, Some((2, 0)));
     Ok(())
+}
+
+/// Whether module 63 exports `f`, by its binding, kind and visibility, and where it stands.
+fn exports(
+    rt: &impl Abort,
+    alloc: Global,
+    kinds: (u8, u8, u8),
+    place: Place,
+) -> Result<bool, Fail> {
+    let symbols = vec![in alloc; symbol(alloc, b"f", kinds, place)?]?;
+    let mut tables = Tables::new(alloc);
+    enter(rt, alloc, &mut tables, 63, &[], symbols)?;
+    let other = found(alloc, &tables, &[63], b"ff")?;
+    same(rt, other, None);
+    Ok(found(alloc, &tables, &[63], b"f")?.is_some())
 }
 
 #[test]
 fn what_is_exported(rt: HostRuntime) -> Result<(), Fail> {
-    let alloc = rt.alloc();
     let rows = [
         ((1, 0, 0), HERE, true),
         ((2, 1, 3), HERE, true),
@@ -130,14 +152,8 @@ fn what_is_exported(rt: HostRuntime) -> Result<(), Fail> {
         ((1, 2, 0), Place::Section(0), false),
         ((1, 2, 0), Place::Dropped, false),
     ];
-    for (i, (kind, place, exported)) in rows.into_iter().enumerate() {
-        let symbols = vec![in alloc; symbol(alloc, b"f", kind, place)?]?;
-        let mut tables = Tables::new(alloc);
-        enter(&rt, alloc, &mut tables, 63, &[], symbols)?;
-        let scope = Numbers::from_slice(alloc, &[63])?;
-        let found = tables.find(&scope, &Name::new(alloc, b"f")?);
-        assert_eq!(rt; found.is_some(), exported, "row {i}");
-        assert!(rt; tables.find(&scope, &Name::new(alloc, b"ff")?).is_none());
+    for (i, (kinds, place, wanted)) in rows.into_iter().enumerate() {
+        same_at(&rt, i, exports(&rt, rt.alloc(), kinds, place)?, wanted);
     }
     Ok(())
 }
@@ -157,14 +173,16 @@ fn breadth_before_depth(rt: HostRuntime) -> Result<(), Fail> {
     for (number, needed) in modules {
         enter(&rt, alloc, &mut tables, number, needed, Vec::new(alloc))?;
     }
-    assert_eq!(rt;
+    same(
+        &rt,
         tables.closure(alloc, 0)?.as_slice(),
-        [0, 5, 2, 1, 6].as_slice()
+        [0, 5, 2, 1, 6].as_slice(),
     );
-    assert_eq!(rt;
+    same(
+        &rt,
         tables.closure(alloc, 7)?.as_slice(),
-        [7, 2, 6, 1, 0, 5].as_slice()
+        [7, 2, 6, 1, 0, 5].as_slice(),
     );
-    assert_eq!(rt; tables.closure(alloc, 1)?.as_slice(), [1].as_slice());
+    same(&rt, tables.closure(alloc, 1)?.as_slice(), [1].as_slice());
     Ok(())
 }

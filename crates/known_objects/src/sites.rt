@@ -7,6 +7,7 @@ ghost use Rattle.symbol_scope.specs.parts.Needs.{table_at};
 ghost use Rattle.load_model.specs.Linkage.{joining_at};
 ghost use Rattle.load_sites.specs.parts.Linker.{IsReady};
 
+use crate::checks::{holds, holds_at, same};
 use elf_model::constants::{
     R_ARM_ABS32, R_ARM_FUNCDESC, R_ARM_FUNCDESC_VALUE, R_ARM_RELATIVE, STT_FUNC, STT_SECTION,
     STV_DEFAULT, STV_HIDDEN,
@@ -236,7 +237,7 @@ fn object_of(joining: &Seq<Joining>, number: u32) -> Result<&Object, Fail> {
 // ---- answers
 
 /// What is answered of a site. The name of a refusal is told apart.
-#[derive(Clone, Copy, Debug, PartialEq, Eq)]
+#[derive(Clone, Copy, PartialEq, Eq)]
 enum Answer {
     Value(SiteValue),
     Unresolved(u32),
@@ -330,13 +331,13 @@ fn first_definition_wins(rt: &impl Abort, alloc: Global) -> Result<(), Fail> {
     for (m, module) in [(0, 1), (1, 1), (2, 2), (3, 1)] {
         let found = linker.definition(m, object_of(&joining, m)?, 1);
         let want = Definition::Symbol(Found { module, symbol: 1 });
-        assert_eq!(rt; found, want, "module {m}");
+        holds_at(rt, m, found == want);
     }
     let program = object_of(&joining, 0)?;
     let slot = (0x10010, R_ARM_FUNCDESC_VALUE, 1);
-    assert_eq!(rt;
-        answer_at(&linker, alloc, program, slot, b"foo"),
-        pair(1, 0x300)
+    holds(
+        rt,
+        answer_at(&linker, alloc, program, slot, b"foo") == pair(1, 0x300),
     );
     Ok(())
 }
@@ -395,7 +396,7 @@ fn what_symbols_mean(rt: &impl Abort, alloc: Global) -> Result<(), Fail> {
     let o = object_of(&joining, 0)?;
     for (kind, symbol, name, want) in symbol_rows() {
         let answer = answer_at(&linker, alloc, o, (0x10010, kind, symbol), name);
-        assert_eq!(rt; answer, want, "kind {kind} on symbol {symbol}");
+        holds_at(rt, kind, answer == want);
     }
     Ok(())
 }
@@ -425,7 +426,7 @@ fn what_addends_mean(rt: &impl Abort, alloc: Global) -> Result<(), Fail> {
     ];
     for (site, kind, want) in rows {
         let answer = answer_at(&linker, alloc, o, (site, kind, 0), b"");
-        assert_eq!(rt; answer, want, "kind {kind} at {site}");
+        holds_at(rt, site, answer == want);
     }
     Ok(())
 }
@@ -472,12 +473,12 @@ fn who_needs_a_slot(rt: &impl Abort, alloc: Global) -> Result<(), Fail> {
     };
     let privates = linker.privates(alloc, values.as_slice())?;
     let twice = [(func(0, 0x300), 0x10010), (func(0, 0x300), 0x10020)];
-    assert_eq!(rt; privates.as_slice(), twice.as_slice());
+    same(rt, privates.as_slice(), twice.as_slice());
     let mut had = DescPool::new(alloc, 0x3000, 1)?;
-    assert!(rt; had.ensure(&func(1, 0x340)).is_ok());
+    holds(rt, had.ensure(&func(1, 0x340)).is_ok());
     let wanted = linker.wanted(alloc, &had, privates.as_slice(), values.as_slice())?;
     let each_once = [func(1, 0x300), func(1, 0x400)];
-    assert_eq!(rt; wanted.as_slice(), each_once.as_slice());
+    same(rt, wanted.as_slice(), each_once.as_slice());
     Ok(())
 }
 
@@ -496,7 +497,7 @@ fn first_site_is_refused(rt: &impl Abort, alloc: Global) -> Result<(), Fail> {
         Err(LoadErr::Refused(LoadRefusal::BadAddress(m, site))) => Some((m, site)),
         _ => None,
     };
-    assert_eq!(rt; refused, Some((0, 0x10020)));
+    same(rt, refused, Some((0, 0x10020)));
     Ok(())
 }
 

@@ -4,17 +4,40 @@ mod objects;
 mod programs;
 mod runs;
 
+use crate::checks::same_at;
 use crate::files::add;
 use fd_base::{Bytes, MemSink, MemStore, Name};
 use fdpic_cmd::{Refusal, Status, top};
-use objects::{add_chain, folder};
+use objects::add_chain;
 use std::alloc::Global;
 use std::process::Abort;
 use std::test::Fail;
 
-/// What the program ends with, over the files below.
+/// Folders of files.
+#[derive(Clone, Copy)]
+enum Files {
+    /// Objects and jobs.
+    Objects,
+    /// Programs that call a function, their libraries and jobs.
+    Programs,
+    /// Programs that call none, each with a job.
+    Plain,
+}
+
+impl Files {
+    fn store(self, alloc: Global) -> Result<MemStore, Fail> {
+        match self {
+            Files::Objects => objects::folder(alloc),
+            Files::Programs => programs::folder(alloc),
+            Files::Plain => programs::plain_folder(alloc),
+        }
+    }
+}
+
+/// What the program ends with, over a folder.
 #[derive(Clone, Copy)]
 struct Case {
+    files: Files,
     words: &'static [u8],
     store_fails_at: u32,
     out_fails_at: u32,
@@ -25,6 +48,7 @@ struct Case {
 }
 
 const ORDINARY: Case = Case {
+    files: Files::Objects,
     words: b"",
     store_fails_at: 0,
     out_fails_at: 0,
@@ -44,198 +68,310 @@ fn words_of(alloc: Global, text: &[u8]) -> Result<Vec<Bytes>, Fail> {
     Ok(words)
 }
 
+/// These words print this, and all goes well.
+fn prints(
+    rt: &impl Abort,
+    alloc: Global,
+    files: Files,
+    words: &'static [u8],
+    out: &'static [u8],
+) -> Result<(), Fail> {
+    let case = Case {
+        files,
+        words,
+        out,
+        ..ORDINARY
+    };
+    check(rt, alloc, &case)
+}
+
+/// These words print this, and the run is stopped.
+fn stops(
+    rt: &impl Abort,
+    alloc: Global,
+    files: Files,
+    words: &'static [u8],
+    out: &'static [u8],
+) -> Result<(), Fail> {
+    let case = Case {
+        files,
+        words,
+        status: 6,
+        out,
+        err: b"fdpic: stopped\n",
+        ..ORDINARY
+    };
+    check(rt, alloc, &case)
+}
+
+/// These words print nothing, and end with this status and this line.
+fn is_refused(
+    rt: &impl Abort,
+    alloc: Global,
+    files: Files,
+    words: &'static [u8],
+    status: u8,
+    err: &'static [u8],
+) -> Result<(), Fail> {
+    let case = Case {
+        files,
+        words,
+        status,
+        err,
+        ..ORDINARY
+    };
+    check(rt, alloc, &case)
+}
+
 fn check(rt: &impl Abort, alloc: Global, case: &Case) -> Result<(), Fail> {
-    check_over(rt, alloc, folder(alloc)?, case)
+    check_over(rt, alloc, &mut case.files.store(alloc)?, case)
+}
+
+/// The standard output and the standard error.
+#[derive(Drop)]
+struct Outputs {
+    out: MemSink,
+    err: MemSink,
+}
+
+impl Outputs {
+    fn new(alloc: Global, case: &Case) -> Result<Outputs, Fail> {
+        Ok(Outputs {
+            out: sink(alloc, case.out_fails_at)?,
+            err: sink(alloc, case.err_fails_at)?,
+        })
+    }
+}
+
+fn sink(alloc: Global, fails_at: u32) -> Result<MemSink, Fail> {
+    let mut sink = MemSink::new(alloc);
+    sink.fail_at(fails_at)?;
+    Ok(sink)
 }
 
 fn check_over(
     rt: &impl Abort,
     alloc: Global,
-    mut store: MemStore,
+    store: &mut MemStore,
     case: &Case,
 ) -> Result<(), Fail> {
     store.fail_at(case.store_fails_at)?;
-    let mut out = MemSink::new(alloc);
-    out.fail_at(case.out_fails_at)?;
-    let mut err = MemSink::new(alloc);
-    err.fail_at(case.err_fails_at)?;
     let words = words_of(alloc, case.words)?;
-    let status = top(alloc, words.as_slice(), &mut store, &mut out, &mut err);
-    assert_eq!(rt; status.code(), case.status, "the status");
-    assert_eq!(rt; out.bytes(), case.out, "the standard output");
-    assert_eq!(rt; err.bytes(), case.err, "the standard error");
+    let Outputs { mut out, mut err } = Outputs::new(alloc, case)?;
+    let status = top(alloc, words.as_slice(), store, &mut out, &mut err);
+    same_at(rt, "the status", status.code(), case.status);
+    same_at(rt, "the standard output", out.bytes(), case.out);
+    same_at(rt, "the standard error", err.bytes(), case.err);
     Ok(())
 }
 
 #[test]
 fn bind_prints_slot(rt: HostRuntime) -> Result<(), Fail> {
     let alloc = rt.alloc();
-    for case in [
-        Case {
-            words: b"bind f.so 0x20000 0x80000",
-            ..ORDINARY
-        },
-        Case {
-            words: b"bind e.so 0x20000 0x80000",
-            out: b"slot 0 0 0x0008000c 0x00020300 0x00080000\n",
-            ..ORDINARY
-        },
-        Case {
-            words: b"bind e.so 0x20000 0x20008",
-            status: 5,
-            err: b"fdpic: load NoRoom 1\n",
-            ..ORDINARY
-        },
-        Case {
-            words: b"bind short.so 0x20000 0x80000",
-            status: 5,
-            err: b"fdpic: short.so elf Short at 51\n",
-            ..ORDINARY
-        },
-        Case {
-            words: b"bind none 0x20000 0x80000",
-            status: 5,
-            err: b"fdpic: no file none\n",
-            ..ORDINARY
-        },
-    ] {
-        check(&rt, alloc, &case)?;
-    }
+    prints(
+        &rt,
+        alloc,
+        Files::Objects,
+        b"bind f.so 0x20000 0x80000",
+        b"",
+    )?;
+    prints(
+        &rt,
+        alloc,
+        Files::Objects,
+        b"bind e.so 0x20000 0x80000",
+        b"slot 0 0 0x0008000c 0x00020300 0x00080000\n",
+    )?;
+    is_refused(
+        &rt,
+        alloc,
+        Files::Objects,
+        b"bind e.so 0x20000 0x20008",
+        5,
+        b"fdpic: load NoRoom 1\n",
+    )?;
+    is_refused(
+        &rt,
+        alloc,
+        Files::Objects,
+        b"bind short.so 0x20000 0x80000",
+        5,
+        b"fdpic: short.so elf Short at 51\n",
+    )?;
+    is_refused(
+        &rt,
+        alloc,
+        Files::Objects,
+        b"bind none 0x20000 0x80000",
+        5,
+        b"fdpic: no file none\n",
+    )?;
     Ok(())
 }
 
 #[test]
 fn slots_on_symbols_and_other_objects(rt: HostRuntime) -> Result<(), Fail> {
     let alloc = rt.alloc();
-    for case in [
-        Case {
-            words: b"bind local.so 0x20000 0x80000",
-            out: b"slot 0 0 0x0008000c 0x00020300 0x00080000\n",
-            ..ORDINARY
-        },
-        Case {
-            words: b"bind foo.so 0x20000 0x80000",
-            ..ORDINARY
-        },
-        Case {
-            words: b"bind main.so 0x20000 0x80000",
-            out: b"slot 0 0 0x0008000c 0x00003200 0x00003210\n",
-            ..ORDINARY
-        },
-        Case {
-            words: b"bind gone.so 0x20000 0x80000",
-            status: 5,
-            err: b"fdpic: load NoFile foo.xx\n",
-            ..ORDINARY
-        },
-        Case {
-            words: b"bind bar.so 0x20000 0x80000",
-            status: 5,
-            err: b"fdpic: load Unresolved 0 bar\n",
-            ..ORDINARY
-        },
-        Case {
-            words: b"bind data.so 0x20000 0x80000",
-            status: 5,
-            err: b"fdpic: load NotCode 0 foo\n",
-            ..ORDINARY
-        },
-        Case {
-            words: b"bind lost.so 0x20000 0x80000",
-            status: 5,
-            err: b"fdpic: load BadAddress 0 0x0001000c\n",
-            ..ORDINARY
-        },
-        Case {
-            words: b"show empty.so",
-            status: 5,
-            err: b"fdpic: empty.so elf Short at 0\n",
-            ..ORDINARY
-        },
-        Case {
-            words: b"show short.so",
-            status: 5,
-            err: b"fdpic: short.so elf Short at 51\n",
-            ..ORDINARY
-        },
-        Case {
-            words: b"show rela.so",
-            status: 5,
-            err: b"fdpic: rela.so elf Rela at 496\n",
-            ..ORDINARY
-        },
-        Case {
-            words: b"code none",
-            status: 5,
-            err: b"fdpic: no file none\n",
-            ..ORDINARY
-        },
-    ] {
-        check(&rt, alloc, &case)?;
-    }
+    prints(
+        &rt,
+        alloc,
+        Files::Objects,
+        b"bind local.so 0x20000 0x80000",
+        b"slot 0 0 0x0008000c 0x00020300 0x00080000\n",
+    )?;
+    prints(
+        &rt,
+        alloc,
+        Files::Objects,
+        b"bind foo.so 0x20000 0x80000",
+        b"",
+    )?;
+    prints(
+        &rt,
+        alloc,
+        Files::Objects,
+        b"bind main.so 0x20000 0x80000",
+        b"slot 0 0 0x0008000c 0x00003200 0x00003210\n",
+    )?;
+    is_refused(
+        &rt,
+        alloc,
+        Files::Objects,
+        b"bind gone.so 0x20000 0x80000",
+        5,
+        b"fdpic: load NoFile foo.xx\n",
+    )?;
+    is_refused(
+        &rt,
+        alloc,
+        Files::Objects,
+        b"bind bar.so 0x20000 0x80000",
+        5,
+        b"fdpic: load Unresolved 0 bar\n",
+    )?;
+    is_refused(
+        &rt,
+        alloc,
+        Files::Objects,
+        b"bind data.so 0x20000 0x80000",
+        5,
+        b"fdpic: load NotCode 0 foo\n",
+    )?;
+    is_refused(
+        &rt,
+        alloc,
+        Files::Objects,
+        b"bind lost.so 0x20000 0x80000",
+        5,
+        b"fdpic: load BadAddress 0 0x0001000c\n",
+    )?;
+    is_refused(
+        &rt,
+        alloc,
+        Files::Objects,
+        b"show empty.so",
+        5,
+        b"fdpic: empty.so elf Short at 0\n",
+    )?;
+    is_refused(
+        &rt,
+        alloc,
+        Files::Objects,
+        b"show short.so",
+        5,
+        b"fdpic: short.so elf Short at 51\n",
+    )?;
+    is_refused(
+        &rt,
+        alloc,
+        Files::Objects,
+        b"show rela.so",
+        5,
+        b"fdpic: rela.so elf Rela at 496\n",
+    )?;
+    is_refused(
+        &rt,
+        alloc,
+        Files::Objects,
+        b"code none",
+        5,
+        b"fdpic: no file none\n",
+    )?;
     Ok(())
 }
 
 #[test]
 fn bind_loads_job(rt: HostRuntime) -> Result<(), Fail> {
     let alloc = rt.alloc();
-    for case in [
-        Case {
-            words: b"bind slot.job",
-            out: b"slot 0 0 0x0008000c 0x00020300 0x00080000\n",
-            ..ORDINARY
-        },
-        Case {
-            words: b"bind needing.job",
-            out: b"slot 0 0 0x0008000c 0x00003200 0x00003210\n",
-            ..ORDINARY
-        },
-        Case {
-            words: b"bind two.job",
-            out: b"slot 0 0 0x0008000c 0x00040300 0x00050000\n",
-            ..ORDINARY
-        },
-        Case {
-            words: b"bind full.job",
-            status: 5,
-            err: b"fdpic: load DescriptorsFull 1\n",
-            ..ORDINARY
-        },
-        Case {
-            words: b"bind needing.job",
-            store_fails_at: 3,
-            status: 3,
-            err: b"fdpic: store fault\n",
-            ..ORDINARY
-        },
-        Case {
-            words: b"bind gone.job",
-            status: 5,
-            err: b"fdpic: load NoFile gone\n",
-            ..ORDINARY
-        },
-        Case {
-            words: b"bind short.job",
-            status: 5,
-            err: b"fdpic: load Elf short.so Short at 51\n",
-            ..ORDINARY
-        },
-        Case {
-            words: b"bind own.job",
-            status: 5,
-            err: b"fdpic: load Elf own.job Ident at 0\n",
-            ..ORDINARY
-        },
-        Case {
-            words: b"bind slot.job",
-            store_fails_at: 2,
-            status: 3,
-            err: b"fdpic: store fault\n",
-            ..ORDINARY
-        },
-    ] {
-        check(&rt, alloc, &case)?;
-    }
+    prints(
+        &rt,
+        alloc,
+        Files::Objects,
+        b"bind slot.job",
+        b"slot 0 0 0x0008000c 0x00020300 0x00080000\n",
+    )?;
+    prints(
+        &rt,
+        alloc,
+        Files::Objects,
+        b"bind needing.job",
+        b"slot 0 0 0x0008000c 0x00003200 0x00003210\n",
+    )?;
+    prints(
+        &rt,
+        alloc,
+        Files::Objects,
+        b"bind two.job",
+        b"slot 0 0 0x0008000c 0x00040300 0x00050000\n",
+    )?;
+    is_refused(
+        &rt,
+        alloc,
+        Files::Objects,
+        b"bind full.job",
+        5,
+        b"fdpic: load DescriptorsFull 1\n",
+    )?;
+    let case = Case {
+        words: b"bind needing.job",
+        store_fails_at: 3,
+        status: 3,
+        err: b"fdpic: store fault\n",
+        ..ORDINARY
+    };
+    check(&rt, alloc, &case)?;
+    is_refused(
+        &rt,
+        alloc,
+        Files::Objects,
+        b"bind gone.job",
+        5,
+        b"fdpic: load NoFile gone\n",
+    )?;
+    is_refused(
+        &rt,
+        alloc,
+        Files::Objects,
+        b"bind short.job",
+        5,
+        b"fdpic: load Elf short.so Short at 51\n",
+    )?;
+    is_refused(
+        &rt,
+        alloc,
+        Files::Objects,
+        b"bind own.job",
+        5,
+        b"fdpic: load Elf own.job Ident at 0\n",
+    )?;
+    let case = Case {
+        words: b"bind slot.job",
+        store_fails_at: 2,
+        status: 3,
+        err: b"fdpic: store fault\n",
+        ..ORDINARY
+    };
+    check(&rt, alloc, &case)?;
     Ok(())
 }
 
@@ -256,7 +392,7 @@ fn files_that_are_too_long(rt: HostRuntime) -> Result<(), Fail> {
             err: b"fdpic: too long long.so\n",
             ..ORDINARY
         };
-        check_over(&rt, alloc, store, &case)?;
+        check_over(&rt, alloc, &mut store, &case)?;
     }
     Ok(())
 }
@@ -272,59 +408,64 @@ fn no_more_than_64_modules(rt: HostRuntime) -> Result<(), Fail> {
         err: b"fdpic: load TooManyModules\n",
         ..ORDINARY
     };
-    check_over(&rt, alloc, store, &case)
+    check_over(&rt, alloc, &mut store, &case)
 }
 
 #[test]
 fn bind_refuses_what_is_no_job(rt: HostRuntime) -> Result<(), Fail> {
     let alloc = rt.alloc();
-    for case in [
-        Case {
-            words: b"bind second.job",
-            status: 5,
-            err: b"fdpic: job First line 1\n",
-            ..ORDINARY
-        },
-        Case {
-            words: b"bind range.job",
-            status: 5,
-            err: b"fdpic: job Range line 2\n",
-            ..ORDINARY
-        },
-        Case {
-            words: b"bind none.job",
-            status: 5,
-            err: b"fdpic: job NoProgram line 2\n",
-            ..ORDINARY
-        },
-        Case {
-            words: b"bind nofile",
-            status: 5,
-            err: b"fdpic: no file nofile\n",
-            ..ORDINARY
-        },
-        Case {
-            words: b"bind slot.job",
-            store_fails_at: 1,
-            status: 3,
-            err: b"fdpic: store fault\n",
-            ..ORDINARY
-        },
-    ] {
-        check(&rt, alloc, &case)?;
-    }
+    is_refused(
+        &rt,
+        alloc,
+        Files::Objects,
+        b"bind second.job",
+        5,
+        b"fdpic: job First line 1\n",
+    )?;
+    is_refused(
+        &rt,
+        alloc,
+        Files::Objects,
+        b"bind range.job",
+        5,
+        b"fdpic: job Range line 2\n",
+    )?;
+    is_refused(
+        &rt,
+        alloc,
+        Files::Objects,
+        b"bind none.job",
+        5,
+        b"fdpic: job NoProgram line 2\n",
+    )?;
+    is_refused(
+        &rt,
+        alloc,
+        Files::Objects,
+        b"bind nofile",
+        5,
+        b"fdpic: no file nofile\n",
+    )?;
+    let case = Case {
+        words: b"bind slot.job",
+        store_fails_at: 1,
+        status: 3,
+        err: b"fdpic: store fault\n",
+        ..ORDINARY
+    };
+    check(&rt, alloc, &case)?;
     Ok(())
 }
 
 #[test]
 fn listings(rt: HostRuntime) -> Result<(), Fail> {
     let alloc = rt.alloc();
-    check(
+    prints(
         &rt,
         alloc,
-        &Case {
-            words: b"show foo.so",
-            out: b"object dyn entry 0x00000000 got 0x00010000
+        Files::Objects,
+        b"show foo.so",
+        b"object dyn entry 0x00000000 got 0x00010000
 segment 0 0x00000000 0x00000008 0x00000008 5 16
 segment 1 0x00010000 0x0000000c 0x0000000c 6 16
 segment 2 0x00011000 0x00000084 0x00000084 4 16
@@ -332,71 +473,66 @@ soname foo.so
 symbol 0 - local notype default undef 0x00000000 0
 symbol 1 foo global func default here 0x00000000 0
 ",
-            ..ORDINARY
-        },
     )?;
-    check(
+    prints(
         &rt,
         alloc,
-        &Case {
-            words: b"code foo.so",
-            out: b"0x00000000 e3a00007 mov r0, #7
+        Files::Objects,
+        b"code foo.so",
+        b"0x00000000 e3a00007 mov r0, #7
 0x00000004 e12fff1e bx lr
 ",
-            ..ORDINARY
-        },
     )
 }
 
 #[test]
 fn faults_and_faulty_words(rt: HostRuntime) -> Result<(), Fail> {
     let alloc = rt.alloc();
-    for case in [
-        Case {
-            status: 2,
-            err: b"fdpic: words\n",
-            ..ORDINARY
-        },
-        Case {
-            words: b"bind e.so 0x20000",
-            status: 2,
-            err: b"fdpic: words\n",
-            ..ORDINARY
-        },
-        Case {
-            words: b"bind e.so 0x20000 far",
-            status: 2,
-            err: b"fdpic: words\n",
-            ..ORDINARY
-        },
-        Case {
-            words: b"show",
-            status: 2,
-            err: b"fdpic: words\n",
-            ..ORDINARY
-        },
-        Case {
-            words: b"bind e.so 0x20000 0x80000",
-            store_fails_at: 1,
-            status: 3,
-            err: b"fdpic: store fault\n",
-            ..ORDINARY
-        },
-        Case {
-            words: b"bind e.so 0x20000 0x80000",
-            out_fails_at: 1,
-            status: 4,
-            err: b"fdpic: sink fault\n",
-            ..ORDINARY
-        },
-        Case {
-            words: b"bind none 0x20000 0x80000",
-            err_fails_at: 1,
-            status: 5,
-            ..ORDINARY
-        },
-    ] {
-        check(&rt, alloc, &case)?;
-    }
+    let case = Case {
+        status: 2,
+        err: b"fdpic: words\n",
+        ..ORDINARY
+    };
+    check(&rt, alloc, &case)?;
+    is_refused(
+        &rt,
+        alloc,
+        Files::Objects,
+        b"bind e.so 0x20000",
+        2,
+        b"fdpic: words\n",
+    )?;
+    is_refused(
+        &rt,
+        alloc,
+        Files::Objects,
+        b"bind e.so 0x20000 far",
+        2,
+        b"fdpic: words\n",
+    )?;
+    is_refused(&rt, alloc, Files::Objects, b"show", 2, b"fdpic: words\n")?;
+    let case = Case {
+        words: b"bind e.so 0x20000 0x80000",
+        store_fails_at: 1,
+        status: 3,
+        err: b"fdpic: store fault\n",
+        ..ORDINARY
+    };
+    check(&rt, alloc, &case)?;
+    let case = Case {
+        words: b"bind e.so 0x20000 0x80000",
+        out_fails_at: 1,
+        status: 4,
+        err: b"fdpic: sink fault\n",
+        ..ORDINARY
+    };
+    check(&rt, alloc, &case)?;
+    let case = Case {
+        words: b"bind none 0x20000 0x80000",
+        err_fails_at: 1,
+        status: 5,
+        ..ORDINARY
+    };
+    check(&rt, alloc, &case)?;
     Ok(())
 }

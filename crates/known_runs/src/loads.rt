@@ -5,6 +5,9 @@ ghost use Rattle.std.specs.Prelude.{◌<◌, length, IfOk};
 ghost use Rattle.load_model.specs.Plan.{Fits};
 ghost use Rattle.load_state.specs.Consistent.{IsConsistent};
 
+mod opens;
+
+use crate::checks::{same, same_at};
 use crate::files::{Image, add};
 use fd_base::{MemStore, Name, Seq};
 use mod_load::{LoadErr, LoadRefusal, Loader, MemPlan, PlaceLine, Places, load_program};
@@ -42,48 +45,106 @@ fn object(alloc: Global, words: &[u32], dynamic: &[u32], fixups: &[u32]) -> Resu
     requires dynamic { length dynamic.now < 64 }
     requires fixups { length fixups.now < 64 }
 {
+    let mut image = Image::new(alloc);
+    put_object(&mut image, words, dynamic, fixups)?;
+    Ok(image.bytes)
+}
+
+fn put_object(image: &mut Image, words: &[u32], dynamic: &[u32], fixups: &[u32]) -> Result<(), Fail>
+    requires words { length words.now < 64 }
+    requires dynamic { length dynamic.now < 64 }
+    requires fixups { length fixups.now < 64 }
+{
     let tail = 4 * dynamic.len() as u32;
     let size = 12 + 4 * words.len() as u32 + tail;
     let list = 148 + size;
-    let mut image = Image::new(alloc);
     if fixups.is_empty() {
         image.header(0, 3)?;
     } else {
         image.header_of_sections(0, 3, [3, 2], list + 4 * fixups.len() as u32 + 20)?;
     }
-    put_segments(&mut image, size, tail)?;
+    put_segments(image, size, tail)?;
     image.words(&[0, 0, 0])?;
     image.words(words)?;
     image.words(dynamic)?;
     if !fixups.is_empty() {
-        put_fixups(&mut image, fixups, list)?;
+        put_fixups(image, fixups, list)?;
     }
-    Ok(image.bytes)
+    Ok(())
+}
+
+/// Adds such an object.
+fn add_object(
+    store: &mut MemStore,
+    alloc: Global,
+    name: &[u8],
+    words: &[u32],
+    dynamic: &[u32],
+    fixups: &[u32],
+) -> Result<(), Fail>
+    requires words { length words.now < 64 }
+    requires dynamic { length dynamic.now < 64 }
+    requires fixups { length fixups.now < 64 }
+{
+    let bytes = object(alloc, words, dynamic, fixups)?;
+    add(store, alloc, name, &bytes)
 }
 
 /// Objects by what loading fills in them.
 fn folder(alloc: Global) -> Result<MemStore, Fail> {
     let mut store = MemStore::new(alloc);
-    let relative = [0, 0, 0, 0, 0, 0x400, 0x1_0020, 23];
-    let dynamic = [3, 0x1_0000, 17, 0x1_0024, 18, 8, 19, 8, 0, 0];
-    add(
-        &mut store,
-        alloc,
-        b"relative",
-        &object(alloc, &relative, &dynamic, &[])?,
-    )?;
-    let list = [0x1_0010, 0x1_0014, 0x1_0000];
-    let fixed = object(alloc, &[0, 0x8, 0x1_0010], &[21, 0, 0, 0], &list)?;
-    add(&mut store, alloc, b"fixups", &fixed)?;
-    let lost = object(alloc, &[0, 0x8, 0x5_0000], &[21, 0, 0, 0], &list)?;
-    add(&mut store, alloc, b"lost", &lost)?;
-    add(&mut store, alloc, b"asks", &asking(alloc)?)?;
-    add(&mut store, alloc, b"l.so", &exporting(alloc)?)?;
+    add_programs(&mut store, alloc)?;
+    add_later(&mut store, alloc)?;
     Ok(store)
 }
 
-/// A program that needs `l.so`, with the address of the descriptor of `foo` at 0x1000c.
-fn asking(alloc: Global) -> Result<Vec<u8>, Fail> {
+/// Programs by what loading fills in them, and the library that one of them needs.
+fn add_programs(store: &mut MemStore, alloc: Global) -> Result<(), Fail> {
+    let relative = [0, 0, 0, 0, 0, 0x400, 0x1_0020, 23];
+    let dynamic = [3, 0x1_0000, 17, 0x1_0024, 18, 8, 19, 8, 0, 0];
+    add_object(store, alloc, b"relative", &relative, &dynamic, &[])?;
+    let dynamic = [21, 0, 0, 0];
+    let list = [0x1_0010, 0x1_0014, 0x1_0000];
+    let fixed = [0, 0x8, 0x1_0010];
+    add_object(store, alloc, b"fixups", &fixed, &dynamic, &list)?;
+    let lost = [0, 0x8, 0x5_0000];
+    add_object(store, alloc, b"lost", &lost, &dynamic, &list)?;
+    add_naming(store, alloc, b"asks", [NEEDED, FOO], UNDEFINED)?;
+    add_exporting(store, alloc)
+}
+
+/// Objects that need no other: two that ask for a function of a loaded module, and two that define the one they ask for.
+fn add_later(store: &mut MemStore, alloc: Global) -> Result<(), Fail> {
+    add_naming(store, alloc, b"asks_bar", [DEBUG, BAR], UNDEFINED)?;
+    add_naming(store, alloc, b"asks_baz", [DEBUG, BAZ], UNDEFINED)?;
+    add_naming(store, alloc, b"baz", [DEBUG, BAZ], DEFINED)?;
+    add_naming(store, alloc, b"no_room", [DEBUG, BAZ], DEFINED)
+}
+
+/// The tag of a needed object.
+const NEEDED: u32 = 1;
+/// A tag that loading passes over.
+const DEBUG: u32 = 21;
+/// A zero byte, and behind it a name.
+const FOO: u32 = 0x6f6f_6600;
+/// The same with another name.
+const BAR: u32 = 0x7261_6200;
+/// And with a third one.
+const BAZ: u32 = 0x7a61_6200;
+/// The value, the size and the rest of the symbol of a function that another object defines.
+const UNDEFINED: [u32; 3] = [0, 0, 0x12];
+/// The same of a function at 0x100.
+const DEFINED: [u32; 3] = [0x100, 0, 0x1_0012];
+
+/// An object with one symbol, and the address of its function's descriptor at 0x1000c. With the tag `NEEDED` it needs
+/// `l.so`.
+fn add_naming(
+    store: &mut MemStore,
+    alloc: Global,
+    file: &[u8],
+    [tag, name]: [u32; 2],
+    symbol: [u32; 3],
+) -> Result<(), Fail> {
     let words = [
         0,
         0x1_000c,
@@ -98,22 +159,22 @@ fn asking(alloc: Global) -> Result<Vec<u8>, Fail> {
         0,
         0,
         1,
-        0,
-        0,
-        0x12, // the symbols
-        0x6f6f_6600,
+        symbol[0],
+        symbol[1],
+        symbol[2], // the symbols
+        name,
         0x732e_6c00,
         0x6f, // the strings
     ];
     let dynamic = [
-        1, 5, 3, 0x1_0000, 17, 0x1_0010, 18, 8, 19, 8, // the library, the GOT and the relocation
+        tag, 5, 3, 0x1_0000, 17, 0x1_0010, 18, 8, 19, 8, // the library, the GOT and the relocation
         4, 0x1_0018, 6, 0x1_002c, 5, 0x1_004c, 10, 12, 0, 0, // symbols and strings
     ];
-    object(alloc, &words, &dynamic, &[])
+    add_object(store, alloc, file, &words, &dynamic, &[])
 }
 
 /// A library with `foo` and `bar` at 0x300, and the address of the descriptor of `bar` at 0x1000c.
-fn exporting(alloc: Global) -> Result<Vec<u8>, Fail> {
+fn add_exporting(store: &mut MemStore, alloc: Global) -> Result<(), Fail> {
     let words = [
         0,
         0x1_000c,
@@ -144,7 +205,7 @@ fn exporting(alloc: Global) -> Result<Vec<u8>, Fail> {
         3, 0x1_0000, 17, 0x1_0010, 18, 8, 19, 8, // the GOT and the relocation
         4, 0x1_0018, 6, 0x1_0030, 5, 0x1_0060, 10, 12, 0, 0, // symbols and strings
     ];
-    object(alloc, &words, &dynamic, &[])
+    add_object(store, alloc, b"l.so", &words, &dynamic, &[])
 }
 
 fn place(alloc: Global, places: &mut Places, name: &[u8], addrs: &[u32]) -> Result<(), Fail> {
@@ -166,14 +227,22 @@ fn plan_with(places: Places) -> MemPlan
     }
 }
 
-/// Where these programs and the library lie.
+/// Where these programs and libraries lie. The data of `no_room` would lie where the library's text does.
 fn places(alloc: Global, data: u32) -> Result<Places, Fail> {
     let mut places = Seq::new(alloc);
-    place(alloc, &mut places, b"relative", &[0x2_0000, data])?;
-    place(alloc, &mut places, b"fixups", &[0x2_0000, data])?;
-    place(alloc, &mut places, b"asks", &[0x2_0000, data])?;
-    place(alloc, &mut places, b"l.so", &[0x4_0000, 0x5_0000])?;
+    place_all(alloc, &mut places, data)?;
     Ok(places)
+}
+
+fn place_all(alloc: Global, places: &mut Places, data: u32) -> Result<(), Fail> {
+    place(alloc, places, b"relative", &[0x2_0000, data])?;
+    place(alloc, places, b"fixups", &[0x2_0000, data])?;
+    place(alloc, places, b"asks", &[0x2_0000, data])?;
+    place(alloc, places, b"l.so", &[0x4_0000, 0x5_0000])?;
+    place(alloc, places, b"baz", &[0x6_0000, 0x7_0000])?;
+    place(alloc, places, b"no_room", &[0x6_0000, 0x4_0000])?;
+    place(alloc, places, b"asks_bar", &[0x9_0000, 0xa_0000])?;
+    place(alloc, places, b"asks_baz", &[0x9_0000, 0xa_0000])
 }
 
 /// The program of this name, loaded by a plan.
@@ -206,7 +275,23 @@ fn load(alloc: Global, program: &[u8], data: u32) -> Result<Loader, Fail>
 struct Case {
     program: &'static [u8],
     data: u32,
-    words: [(u32, u32); 3],
+    words: &'static [(u32, u32)],
+}
+
+fn check_words(rt: &impl Abort, loader: &mut Loader, words: &[(u32, u32)]) {
+    for (addr, word) in words {
+        same_at(rt, *addr, loader.guest().read32(*addr), Ok(*word));
+    }
+}
+
+/// The text of the program lies at 0x20000, and its GOT at an address.
+fn is_placed(rt: &impl Abort, loader: &Loader, got: u32)
+    requires { IsConsistent loader.now.loaded }
+{
+    same(rt, loader.got(0), Some(got));
+    for (addr, module) in [(0x2_03ff, Some(0)), (0x2_0400, None)] {
+        same_at(rt, addr, loader.module_at(addr), module);
+    }
 }
 
 #[test]
@@ -216,32 +301,36 @@ fn words_in_memory(rt: HostRuntime) -> Result<(), Fail> {
         Case {
             program: b"relative",
             data: 0x8_0000,
-            words: [(0x8_0020, 0x2_0400), (0x8_0000, 0x1000), (0x8_0008, 0x1400)],
+            words: &[(0x8_0020, 0x2_0400), (0x8_0000, 0x1000), (0x8_0008, 0x1400)],
         },
         // words that a list of fixups names, each by the segment that holds what it says
         Case {
             program: b"fixups",
             data: 0x3_0000,
-            words: [(0x3_0010, 0x2_0008), (0x3_0014, 0x3_0010), (0x3_0004, 0)],
+            words: &[(0x3_0010, 0x2_0008), (0x3_0014, 0x3_0010), (0x3_0004, 0)],
+        },
+        // the stubs: svc 240, ldr r9, [r12, #4], ldr pc, [r12], svc 6 and svc 0, whatever the program
+        Case {
+            program: b"fixups",
+            data: 0x3_0000,
+            words: &[
+                (0x1000, 0xef00_00f0),
+                (0x1004, 0xe59c_9004),
+                (0x1008, 0xe59c_f000),
+                (0x100c, 0xef00_0006),
+                (0x1010, 0xef00_0000),
+            ],
         },
         // one descriptor for one function, whatever its name
         Case {
             program: b"asks",
             data: 0x8_0000,
-            words: [(0x8_000c, 0x3000), (0x5_000c, 0x3000), (0x3000, 0x4_0300)],
+            words: &[(0x8_000c, 0x3000), (0x5_000c, 0x3000), (0x3000, 0x4_0300)],
         },
     ] {
         let mut loader = load(rt.alloc(), case.program, case.data)?;
-        assert_eq!(rt; loader.got(0), Some(case.data));
-        for (addr, word) in case.words {
-            assert_eq!(rt;
-                loader.guest().read32(addr),
-                Ok(word),
-                "the word at {addr:#x}"
-            );
-        }
-        assert_eq!(rt; loader.module_at(0x2_03ff), Some(0));
-        assert_eq!(rt; loader.module_at(0x2_0400), None);
+        is_placed(&rt, &loader, case.data);
+        check_words(&rt, &mut loader, case.words);
     }
     Ok(())
 }
@@ -253,7 +342,7 @@ fn word_without_address(rt: HostRuntime) -> Result<(), Fail> {
     let end = load_program(rt.alloc(), &plan, &name, &mut folder(rt.alloc())?);
     match end {
         Err(LoadErr::Refused(LoadRefusal::BadAddress(m, site))) => {
-            assert_eq!(rt; (m, site), (0, 0x1_0014));
+            same(&rt, (m, site), (0, 0x1_0014));
         }
         _ => Err("not refused")?,
     }

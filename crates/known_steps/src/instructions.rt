@@ -1,6 +1,7 @@
 //! The table by example. The words are those that GNU as makes of the texts, and the texts follow the Arm
 //! manual's syntax.
 
+use crate::checks::{holds_at, same_at};
 use a32_isa::{decode, encode, print};
 use std::test::Fail;
 
@@ -145,12 +146,8 @@ fn words_have_their_texts(rt: HostRuntime) -> Result<(), Fail> {
         let (digits, text) = row.split_once(' ').ok_or("a row without a text")?;
         let word = u32::from_str_radix(digits, 16)?;
         let i = decode(word).ok_or("no instruction")?;
-        assert_eq!(rt;
-            print(rt.alloc(), &i)?.as_slice(),
-            text.as_bytes(),
-            "at {row}"
-        );
-        assert_eq!(rt; encode(&i), word, "at {row}");
+        same_at(&rt, row, print(rt.alloc(), &i)?.as_slice(), text.as_bytes());
+        same_at(&rt, row, encode(&i), word);
     }
     Ok(())
 }
@@ -159,7 +156,7 @@ fn words_have_their_texts(rt: HostRuntime) -> Result<(), Fail> {
 fn other_words_have_none(rt: HostRuntime) -> Result<(), Fail> {
     for digits in REFUSED.split_ascii_whitespace() {
         let word = u32::from_str_radix(digits, 16)?;
-        assert_eq!(rt; decode(word), None, "at {digits}");
+        holds_at(&rt, digits, decode(word).is_none());
     }
     Ok(())
 }

@@ -1,8 +1,11 @@
 //! Texts and what they are, from the description of the format.
+use crate::checks::{holds, holds_at, same, same_at};
 use fd_base::{Bytes, Memory, put_dec};
 use job_text::{JobErr, JobKind, read_job};
+use load_model::PlaceLine;
 use run_model::Job;
 use std::alloc::Global;
+use std::process::Abort;
 use std::test::Fail;
 
 /// The job of a short text.
@@ -13,9 +16,16 @@ fn read(alloc: Global, text: &[u8]) -> Result<Job, JobErr> {
     read_job(alloc, text)
 }
 
-/// Whether a text is refused so.
-fn is_refused(alloc: Global, text: &[u8], line: u32, kind: JobKind) -> bool {
-    matches!(read(alloc, text), Err(JobErr::Refused(r)) if r.line == line && r.kind == kind)
+fn is_job(alloc: Global, text: &[u8]) -> bool {
+    read(alloc, text).is_ok()
+}
+
+/// The line at which a text is refused, and why. None where it is a job.
+fn refusal(alloc: Global, text: &[u8]) -> Option<(u32, JobKind)> {
+    match read(alloc, text) {
+        Err(JobErr::Refused(r)) => Some((r.line, r.kind)),
+        _ => None,
+    }
 }
 
 #[test]
@@ -66,10 +76,8 @@ fn texts_are_refused(rt: HostRuntime) {
         ),
     ];
     for (text, line, kind) in rows {
-        assert!(rt;
-            is_refused(rt.alloc(), text.as_bytes(), line, kind),
-            "{text}"
-        );
+        let refused = refusal(rt.alloc(), text.as_bytes());
+        holds_at(&rt, text, refused == Some((line, kind)));
     }
 }
 
@@ -79,6 +87,12 @@ fn with_line(alloc: Global, line: &[u8]) -> Result<Bytes, Memory> {
     text.extend_from_slice(line)?;
     text.extend_from_slice(b"\nprogram a\n")?;
     Ok(text)
+}
+
+/// How a text with this line is refused.
+fn refusal_of(alloc: Global, line: &[u8]) -> Result<Option<(u32, JobKind)>, Memory> {
+    let text = with_line(alloc, line)?;
+    Ok(refusal(alloc, text.as_slice()))
 }
 
 #[test]
@@ -130,9 +144,24 @@ fn lines_are_refused(rt: HostRuntime) -> Result<(), Fail> {
         ("fdpic-job 1", JobKind::Word),
     ];
     for (line, kind) in rows {
-        let text = with_line(alloc, line.as_bytes())?;
-        assert!(rt; is_refused(alloc, text.as_slice(), 2, kind), "{line}");
+        let refused = refusal_of(alloc, line.as_bytes())?;
+        holds_at(&rt, line, refused == Some((2, kind)));
     }
+    Ok(())
+}
+
+/// The line stands in a job, and a second one like it is refused or not.
+fn is_taken(rt: &impl Abort, alloc: Global, line: &str, once: bool) -> Result<(), Memory> {
+    let mut text = with_line(alloc, line.as_bytes())?;
+    holds_at(rt, line, is_job(alloc, text.as_slice()));
+    text.extend_from_slice(line.as_bytes())?;
+    let wanted = if once {
+        Some((4, JobKind::Twice))
+    } else {
+        None
+    };
+    holds_at(rt, line, refusal(alloc, text.as_slice()) == wanted);
+    same_at(rt, line, is_job(alloc, text.as_slice()), !once);
     Ok(())
 }
 
@@ -173,24 +202,26 @@ fn lines_are_taken_once(rt: HostRuntime) -> Result<(), Fail> {
         ("    ", false),
     ];
     for (line, once) in rows {
-        let mut text = with_line(alloc, line.as_bytes())?;
-        assert!(rt; read(alloc, text.as_slice()).is_ok(), "{line}");
-        text.extend_from_slice(line.as_bytes())?;
-        let twice = is_refused(alloc, text.as_slice(), 4, JobKind::Twice);
-        assert_eq!(rt; twice, once, "{line}");
-        assert_eq!(rt; read(alloc, text.as_slice()).is_ok(), !once, "{line}");
+        is_taken(&rt, alloc, line, once)?;
     }
     Ok(())
 }
 
-/// A job with `count` lines of a word, each with a number of its own in place of `#`.
-fn many(alloc: Global, before: &[u8], behind: &[u8], count: u32) -> Result<Bytes, Memory> {
+/// A job with `count` lines of a word, each with a number of its own behind it, and then other lines.
+fn many(
+    alloc: Global,
+    word: &[u8],
+    behind: &[u8],
+    count: u32,
+    others: &str,
+) -> Result<Bytes, Memory> {
     let mut text = Bytes::from_slice(alloc, b"fdpic-job 1\nprogram a\n")?;
     for n in 1..=count {
-        text.extend_from_slice(before)?;
+        text.extend_from_slice(word)?;
         put_dec(&mut text, n)?;
         text.extend_from_slice(behind)?;
     }
+    text.extend_from_slice(others.as_bytes())?;
     Ok(text)
 }
 
@@ -203,32 +234,58 @@ fn turns_read(alloc: Global, text: &[u8]) -> usize {
 }
 
 #[test]
-fn lines_are_counted(rt: HostRuntime) -> Result<(), Fail> {
-    let alloc = rt.alloc();
-    let mut places = many(alloc, b"place p", b" 1\n", 1023)?;
-    assert!(rt; read(alloc, places.as_slice()).is_ok());
-    places.extend_from_slice(b"place p1024 1\n")?;
-    assert!(rt; read(alloc, places.as_slice()).is_ok());
-    let length = places.len();
-    places.extend_from_slice(b"place p7 1\n")?;
-    assert!(rt; is_refused(alloc, places.as_slice(), 1027, JobKind::Twice));
-    places.truncate(length);
-    places.extend_from_slice(b"place p1025 1\n")?;
-    assert!(rt; is_refused(alloc, places.as_slice(), 1027, JobKind::TooMany));
-    let mut turns = many(alloc, b"turn 1 ", b"\n", 65_535)?;
-    assert_eq!(rt; turns_read(alloc, turns.as_slice()), 65_535);
-    turns.extend_from_slice(b"turn 1 65536\n")?;
-    assert_eq!(rt; turns_read(alloc, turns.as_slice()), 65_536);
-    turns.extend_from_slice(b"turn 1 1\n")?;
-    assert!(rt; is_refused(alloc, turns.as_slice(), 65_539, JobKind::TooMany));
-    let mut long = [b'n'; 264];
-    long[..8].copy_from_slice(b"program ");
-    let text = with_line(alloc, &long)?;
-    assert!(rt; is_refused(alloc, text.as_slice(), 2, JobKind::Form));
-    let text = with_line(alloc, &long[..263])?;
-    assert!(rt; is_refused(alloc, text.as_slice(), 3, JobKind::Twice));
-    let text = with_line(alloc, &long[..262])?;
-    assert!(rt; is_refused(alloc, text.as_slice(), 3, JobKind::Twice));
+fn places_are_counted(rt: HostRuntime) -> Result<(), Fail> {
+    for (others, wanted) in [
+        ("", None),
+        ("place p1024 1\n", None),
+        ("place p1024 1\nplace p7 1\n", Some((1027, JobKind::Twice))),
+        (
+            "place p1024 1\nplace p1025 1\n",
+            Some((1027, JobKind::TooMany)),
+        ),
+    ] {
+        let text = many(rt.alloc(), b"place p", b" 1\n", 1023, others)?;
+        holds_at(&rt, others, refusal(rt.alloc(), text.as_slice()) == wanted);
+        same_at(
+            &rt,
+            others,
+            is_job(rt.alloc(), text.as_slice()),
+            wanted.is_none(),
+        );
+    }
+    Ok(())
+}
+
+#[test]
+fn turns_are_counted(rt: HostRuntime) -> Result<(), Fail> {
+    for (others, count, wanted) in [
+        ("", 65_535, None),
+        ("turn 1 65536\n", 65_536, None),
+        (
+            "turn 1 65536\nturn 1 1\n",
+            0,
+            Some((65_539, JobKind::TooMany)),
+        ),
+    ] {
+        let text = many(rt.alloc(), b"turn 1 ", b"\n", 65_535, others)?;
+        holds_at(&rt, others, refusal(rt.alloc(), text.as_slice()) == wanted);
+        same_at(&rt, others, turns_read(rt.alloc(), text.as_slice()), count);
+    }
+    Ok(())
+}
+
+#[test]
+fn names_and_lines_are_measured(rt: HostRuntime) -> Result<(), Fail> {
+    let mut line = [b'n'; 264];
+    line[..8].copy_from_slice(b"program ");
+    for (len, at, kind) in [
+        (264, 2, JobKind::Form),
+        (263, 3, JobKind::Twice),
+        (262, 3, JobKind::Twice),
+    ] {
+        let refused = refusal_of(rt.alloc(), line.get(..len).unwrap_or(b""))?;
+        holds_at(&rt, len, refused == Some((at, kind)));
+    }
     Ok(())
 }
 
@@ -237,44 +294,56 @@ const EVERY_KIND: &[u8] = b"  fdpic-job   1 \n# a job\n  memory 0x20000  \nprogr
 descriptors 128\nstack 2048\nsteps 500\nmode eager\nplace main.elf 0x20000 131328\n\
 turn 7 0x14\nplace lib.so 4294967295\nturn 0 10";
 
+/// The settings of a job, and whether it is lazy.
+fn has_settings(rt: &impl Abort, job: &Job, program: &[u8], settings: [u32; 4], lazy: bool) {
+    same(rt, job.program.as_slice(), program);
+    let plan = &job.plan;
+    let found = [plan.memory, plan.descriptors, plan.stack, job.steps];
+    same(rt, found, settings);
+    same(rt, job.lazy, lazy);
+}
+
+fn is_place(rt: &impl Abort, place: &PlaceLine, name: &[u8], addrs: &[u32]) {
+    same(rt, place.name.as_slice(), name);
+    same(rt, place.addrs.as_slice(), addrs);
+}
+
+fn has_places_and_turns(rt: &impl Abort, job: &Job) {
+    match job.plan.places.as_slice() {
+        [first, second] => {
+            is_place(rt, first, b"main.elf", &[131_072, 131_328]);
+            is_place(rt, second, b"lib.so", &[4_294_967_295]);
+        }
+        other => same(rt, other.len(), 2),
+    }
+    match job.turns.as_slice() {
+        [first, second] => {
+            same(rt, [first.thread, first.count], [7, 20]);
+            same(rt, [second.thread, second.count], [0, 10]);
+        }
+        other => same(rt, other.len(), 2),
+    }
+}
+
+fn job_of(alloc: Global, text: &[u8]) -> Result<Job, Fail> {
+    match read(alloc, text) {
+        Ok(job) => Ok(job),
+        Err(_) => Err("no job")?,
+    }
+}
+
 #[test]
 fn values_are_read(rt: HostRuntime) -> Result<(), Fail> {
-    let job = match read(rt.alloc(), EVERY_KIND) {
-        Ok(job) => job,
-        Err(_) => Err("no job")?,
-    };
-    assert_eq!(rt; job.program.as_slice(), b"main.elf".as_slice());
-    assert_eq!(rt; job.plan.memory, 131_072);
-    assert_eq!(rt; job.plan.descriptors, 128);
-    assert_eq!(rt; job.plan.stack, 2_048);
-    assert_eq!(rt; job.steps, 500);
-    assert_eq!(rt; job.lazy, false);
-    let places = job.plan.places.as_slice();
-    assert_eq!(rt; places.len(), 2);
-    assert_eq!(rt; places[0].name.as_slice(), b"main.elf".as_slice());
-    assert_eq!(rt; places[0].addrs.as_slice(), [131_072, 131_328].as_slice());
-    assert_eq!(rt; places[1].name.as_slice(), b"lib.so".as_slice());
-    assert_eq!(rt; places[1].addrs.as_slice(), [4_294_967_295].as_slice());
-    let turns = job.turns.as_slice();
-    assert_eq!(rt; turns.len(), 2);
-    assert_eq!(rt; (turns[0].thread, turns[0].count), (7, 20));
-    assert_eq!(rt; (turns[1].thread, turns[1].count), (0, 10));
+    let job = job_of(rt.alloc(), EVERY_KIND)?;
+    has_settings(&rt, &job, b"main.elf", [131_072, 128, 2_048, 500], false);
+    has_places_and_turns(&rt, &job);
     Ok(())
 }
 
 #[test]
 fn defaults_are_taken(rt: HostRuntime) -> Result<(), Fail> {
-    let job = match read(rt.alloc(), b"fdpic-job 1\n program  a ") {
-        Ok(job) => job,
-        Err(_) => Err("no job")?,
-    };
-    assert_eq!(rt; job.program.as_slice(), b"a".as_slice());
-    assert_eq!(rt; job.plan.memory, 1_048_576);
-    assert_eq!(rt; job.plan.descriptors, 64);
-    assert_eq!(rt; job.plan.stack, 1_024);
-    assert_eq!(rt; job.steps, 1_000_000);
-    assert_eq!(rt; job.lazy, true);
-    assert!(rt; job.plan.places.is_empty());
-    assert!(rt; job.turns.is_empty());
+    let job = job_of(rt.alloc(), b"fdpic-job 1\n program  a ")?;
+    has_settings(&rt, &job, b"a", [1_048_576, 64, 1_024, 1_000_000], true);
+    holds(&rt, job.plan.places.is_empty() && job.turns.is_empty());
     Ok(())
 }

@@ -1,5 +1,6 @@
 //! Services by example.
 
+use crate::checks::{holds, same};
 use a32_machine::Cpu;
 use fd_base::Memory;
 use guest_mem::{Guest, MemKind};
@@ -46,7 +47,7 @@ fn asked(
     let served = serve(alloc, number, &mut after, &mut refusal, &guest)?;
     let answer = after.r[0];
     after.r[0] = arguments[0];
-    assert!(rt; after == cpu(arguments));
+    holds(rt, after == cpu(arguments));
     Ok((served, answer, refusal))
 }
 
@@ -62,6 +63,20 @@ fn told(served: &Served) -> (&'static [u8], usize) {
         Served::Stopped(Stop::Service(number)) => (b"service", *number as usize),
         Served::Stopped(_) => (b"stopped", 0),
     }
+}
+
+/// A service with these arguments comes to this, with r0 and the code of the last refusal after it.
+fn comes_to(
+    rt: &impl Abort,
+    alloc: Global,
+    (number, arguments): (u32, [u32; 2]),
+    outcome: (&[u8], usize),
+    after: [u32; 2],
+) -> Result<(), Fail> {
+    let (served, r0, refusal) = asked(rt, alloc, number, arguments)?;
+    same(rt, told(&served), outcome);
+    same(rt, [r0, refusal], after);
+    Ok(())
 }
 
 #[test]
@@ -97,10 +112,7 @@ fn services_come_to(rt: HostRuntime) -> Result<(), Fail> {
         (1, [0, 4_097], (b"went", 0), [0xffff_ffff, 51]),
     ];
     for (number, arguments, outcome, after) in cases {
-        let (served, r0, refusal) = asked(&rt, alloc, number, arguments)?;
-        let (word, value) = told(&served);
-        assert!(rt; word == outcome.0 && value == outcome.1);
-        assert_eq!(rt; [r0, refusal], after);
+        comes_to(&rt, alloc, (number, arguments), outcome, after)?;
     }
     Ok(())
 }
@@ -110,7 +122,7 @@ fn bytes_are_put_out(rt: HostRuntime) -> Result<(), Fail> {
     let alloc = rt.alloc();
     let (served, _, _) = asked(&rt, alloc, 1, [0x2ffb, 5])?;
     match &served {
-        Served::Wrote(bytes) => assert!(rt; bytes.as_slice() == b"\0abcd".as_slice()),
+        Served::Wrote(bytes) => holds(&rt, bytes.as_slice() == b"\0abcd".as_slice()),
         _ => assert!(rt; false),
     }
     Ok(())

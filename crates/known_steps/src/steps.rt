@@ -4,6 +4,7 @@
 ghost use Rattle.std.specs.Prelude.{◌≡◌, ◌+◌, ◌≤◌, ℕ, Some, None, IfOk, length};
 ghost use Rattle.guest_mem.specs.Memory.{HaveKind, kind_at};
 
+use crate::checks::{holds_at, same_at};
 use a32_machine::{Cpu, StepEnd, StepStop, step};
 use fd_base::Memory;
 use guest_mem::{Guest, MemKind};
@@ -403,11 +404,11 @@ fn steps_leave_what_the_manual_says(rt: HostRuntime) -> Result<(), Fail> {
         board.put(old.cpu.r[15], u32::from_str_radix(word, 16)?);
         let mut cpu = old.cpu;
         let end = board.step(&mut cpu);
-        assert_eq!(rt; end, new.end, "at {row}");
-        assert_eq!(rt; cpu, new.cpu, "at {row}");
+        holds_at(&rt, row, end == new.end);
+        holds_at(&rt, row, cpu == new.cpu);
         for (addr, v) in new.words {
             if addr != 0 {
-                assert_eq!(rt; board.guest.read32(addr), Ok(v), "at {row}");
+                same_at(&rt, row, board.guest.read32(addr), Ok(v));
             }
         }
     }

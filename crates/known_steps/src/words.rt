@@ -1,6 +1,7 @@
 //! Values from outside: each public call once, at its edges.
 ghost use Rattle.std.specs.Prelude.{◌<◌, ◌^◌, length};
 
+use crate::checks::{holds, same, same_at};
 use fd_base::{
     Bytes, DirStore, FetchErr, Lines, Name, PutErr, Sink, StdSink, Store, half_at, number, put_dec,
     put_decimal_field, put_digits_field, put_hex_field, put_hex8, put_index_field, put_name_field,
@@ -24,7 +25,7 @@ fn words_are_little_endian(rt: HostRuntime) {
         (0xffff_ffff, None),
     ];
     for (at, word) in words {
-        assert_eq!(rt; word_at(&bytes, at), word, "word at {at}");
+        same_at(&rt, at, word_at(&bytes, at), word);
     }
     for (at, half) in [
         (0, Some(0x5678)),
@@ -32,10 +33,10 @@ fn words_are_little_endian(rt: HostRuntime) {
         (4, None),
         (0xffff_ffff, None),
     ] {
-        assert_eq!(rt; half_at(&bytes, at), half, "half at {at}");
+        same_at(&rt, at, half_at(&bytes, at), half);
     }
     put_word(&mut bytes, 1, 0xa1b2_c3d4);
-    assert_eq!(rt; bytes, [0x78, 0xd4, 0xc3, 0xb2, 0xa1]);
+    same(&rt, bytes, [0x78, 0xd4, 0xc3, 0xb2, 0xa1]);
 }
 
 #[test]
@@ -67,7 +68,7 @@ fn numbers_are_read(rt: HostRuntime) {
         ("x1", None),
     ];
     for (field, value) in fields {
-        assert_eq!(rt; number(field.as_bytes()), value, "{field}");
+        same_at(&rt, field, number(field.as_bytes()), value);
     }
 }
 
@@ -85,7 +86,7 @@ fn texts_are_put(rt: HostRuntime) -> Result<(), Fail> {
     }
     put_shown(&mut out, &named(alloc, b"lib.so\x20\x21%\x7e\x7f\xff\x01")?)?;
     let wanted = b"0 7 10 4294967295 0x00000000 0xdeadbeef 0x00120a00 lib.so%20!%25~%7f%ff%01";
-    assert_eq!(rt; out.as_slice(), wanted.as_slice());
+    same(&rt, out.as_slice(), wanted.as_slice());
     Ok(())
 }
 
@@ -95,9 +96,9 @@ fn host_files_are_written_and_read_whole(rt: HostRuntime) -> Result<(), Fail> {
     let mut store = DirStore::new(&rt);
     let name = named(alloc, b"two pieces and a half")?;
     let bytes = vec![in alloc; 0xa5; 10_240]?;
-    assert!(rt; matches!(store.put(&name, &bytes), Ok(())));
+    holds(&rt, matches!(store.put(&name, &bytes), Ok(())));
     let read = store.fetch(alloc, &name)?;
-    assert_eq!(rt; read.map(|it| it.len()), Some(10_240));
+    same(&rt, read.map(|it| it.len()), Some(10_240));
     Ok(())
 }
 
@@ -105,23 +106,31 @@ fn host_files_are_written_and_read_whole(rt: HostRuntime) -> Result<(), Fail> {
 fn the_host_names_no_text_and_no_folder(rt: HostRuntime) -> Result<(), Fail> {
     let alloc = rt.alloc();
     let mut store = DirStore::new(&rt);
-    assert!(rt;
+    holds(
+        &rt,
         matches!(
             store.fetch(alloc, &named(alloc, b"no such file")?),
             Ok(None)
-        )
+        ),
     );
     let not_text = named(alloc, b"\xff")?;
-    assert!(rt; matches!(store.fetch(alloc, &not_text), Ok(None)));
-    assert!(rt; matches!(store.put(&not_text, b""), Err(PutErr::Failed)));
+    holds(&rt, matches!(store.fetch(alloc, &not_text), Ok(None)));
+    holds(
+        &rt,
+        matches!(store.put(&not_text, b""), Err(PutErr::Failed)),
+    );
     let folder = named(alloc, b".")?;
-    assert!(rt; matches!(store.fetch(alloc, &folder), Err(FetchErr::Failed)));
-    assert!(rt; matches!(store.put(&folder, b""), Err(PutErr::Failed)));
-    assert!(rt;
+    holds(
+        &rt,
+        matches!(store.fetch(alloc, &folder), Err(FetchErr::Failed)),
+    );
+    holds(&rt, matches!(store.put(&folder, b""), Err(PutErr::Failed)));
+    holds(
+        &rt,
         matches!(
             StdSink::new(rt.stdout()).put(b"to standard output\n"),
             Ok(())
-        )
+        ),
     );
     Ok(())
 }
@@ -142,11 +151,14 @@ fn has_lines(text: &[u8], expected: &[(u32, &[u8])]) -> bool
 
 #[test]
 fn lines_end_at_line_feeds(rt: HostRuntime) {
-    assert!(rt; has_lines(b"", &[]));
-    assert!(rt; has_lines(b"\n", &[(1, b"")]));
-    assert!(rt; has_lines(b"a", &[(1, b"a")]));
-    assert!(rt; has_lines(b"a\n", &[(1, b"a")]));
-    assert!(rt; has_lines(b"a\r\n\n b", &[(1, b"a\r"), (2, b""), (3, b" b")]));
+    holds(&rt, has_lines(b"", &[]));
+    holds(&rt, has_lines(b"\n", &[(1, b"")]));
+    holds(&rt, has_lines(b"a", &[(1, b"a")]));
+    holds(&rt, has_lines(b"a\n", &[(1, b"a")]));
+    holds(
+        &rt,
+        has_lines(b"a\r\n\n b", &[(1, b"a\r"), (2, b""), (3, b" b")]),
+    );
 }
 
 #[test]
@@ -157,7 +169,7 @@ fn words_are_put_and_pushed(rt: HostRuntime) -> Result<(), Fail> {
     bytes.push_words(&[0x0a09_0807, 0])?;
     bytes.put_word(9, 0xa1b2_c3d4);
     let wanted = [1, 2, 3, 4, 5, 6, 7, 8, 9, 0xd4, 0xc3, 0xb2, 0xa1, 0];
-    assert_eq!(rt; bytes.as_slice(), wanted.as_slice());
+    same(&rt, bytes.as_slice(), wanted.as_slice());
     Ok(())
 }
 
@@ -174,6 +186,6 @@ fn fields_are_put_behind_spaces(rt: HostRuntime) -> Result<(), Fail> {
     put_digits_field(&mut out, b"\x00\xfe")?;
     put_digits_field(&mut out, b"")?;
     let wanted = b" word 4294967295 0 0xdeadbeef a%20b - 00fe -";
-    assert_eq!(rt; out.as_slice(), wanted.as_slice());
+    same(&rt, out.as_slice(), wanted.as_slice());
     Ok(())
 }

@@ -16,7 +16,7 @@ use std::marker::Model;
 
 /// The address of each function's descriptor: the pool's, or that of its private descriptor, or of the slot that it is
 /// given.
-#[derive(Debug, Drop)]
+#[derive(Drop)]
 pub struct Descriptors<'a> {
     /// The functions that have one of the loader's slots already.
     pool: &'a DescPool,

@@ -13,7 +13,7 @@ use std::marker::Model;
 
 /// The load map of each module and the link address of its GOT, by module number, and the address of each function's
 /// descriptor.
-#[derive(Debug, Drop)]
+#[derive(Drop)]
 pub struct Places<'a> {
     /// The load map of each module number.
     maps: &'a [MapEntries],

@@ -25,17 +25,18 @@ use Rattle.load_model.specs.Process.{live_at, object_at}
 use Rattle.load_model.specs.Sites.{Member}
 use Rattle.load_image.specs.Items.{load_map_of}
 use Rattle.load_state.specs.Accepted.{all_items, maps_after, linkage_for}
-use Rattle.load_state.specs.Consistent.{HasRanges, IsEntryOf}
-use Rattle.load_state.specs.Loaded.{Loaded, pool_of}
+use Rattle.load_state.specs.Consistent.{HasDescriptors, HasRanges, IsEntryOf, own_site}
+use Rattle.load_state.specs.Loaded.{LoadedModules, pool_of}
 use Rattle.load_map.specs.Maps.{map_at}
 use Rattle.load_laws.specs.parts.Premises.{HaveOwnNumbers, HasFreeNumber}
 use Rattle.load_laws.proofs.MapsAfter.{map_stays, maps_are, IsMapped}
-use Rattle.fd_base.proofs.Options.{none_or}
+use Rattle.fd_base.proofs.Options.{none_or, one_value}
 use Rattle.load_laws.proofs.ModulesAfter.{entries, old_number}
 use Rattle.load_laws.proofs.RangesAfter.{ranges_stay_lem, range_of}
 use Rattle.load_laws.proofs.SegmentsApart.{placed_apart}
 use Rattle.load_laws.specs.parts.DescriptorLaws.{AdoptionsAreFree}
 use Rattle.load_laws.proofs.OwnDescriptors.{IsPrivate, private_means}
+use Rattle.load_laws.proofs.OwnSites.{own_means}
 use Rattle.load_laws.proofs.DescriptorPlaces.{IsHeldAt, private_held, above_slots, one_place}
 use Rattle.fd_base.proofs.Members.{contains_at, in_flat_map, in_map, nothing_in, first_or_later}
 
@@ -55,7 +56,7 @@ one_or_apart (x ∷ held) r q apart a b =
     ]
 
 -- an address lies in segments of one module only
-one_module : (l : Loaded) (m n a b : ℕ) (d e : MapEntry) → HasRanges l → Contains (map_at l.maps m) d → Contains (map_at l.maps n) e
+one_module : (l : LoadedModules) (m n a b : ℕ) (d e : MapEntry) → HasRanges l → Contains (map_at l.maps m) d → Contains (map_at l.maps n) e
     → d.addr ≤ a → a < d.addr + d.memsz → e.addr ≤ b → b < e.addr + e.memsz → a ≡ b → m ≡ n
 one_module l m n a b d e ranges at_d at_e low_d high_d low_e high_e same =
     let r = range_of m d in
@@ -96,6 +97,14 @@ same_number (x ∷ joining) i j own a b same =
 live_object : (x : Option Live) → is_some x ≡ true → option_map (λ live. live.object) x ≢ None
 live_object None is none = false≢true is
 live_object (Some live) is none = absurd cc
+
+-- functions of modules that aren't live have no address
+pub no_address : (l : LoadedModules) (f : Func) → HasDescriptors l → object_at l.process f.module ≡ None → get l.addrs f ≡ None
+no_address l f had dead =
+    elim (none_or (get l.addrs f)) [
+      | inl none ↦ none
+      | inr some ↦ absurd (live_object (live_at l.process f.module) (had.live f some.0 some.1) dead)
+    ]
 
 -- ---- adopted descriptors
 
@@ -144,7 +153,7 @@ adoptions_free_lem l joining scope addrs maps adopted mods ranges had own free s
     k = linkage_for l joining scope
 
     -- the segments with the new ones
-    new : Loaded
+    new : LoadedModules
     new = record l { maps = maps; held = all_held (all_items l.plan.places joining) addrs l.held }
 
     new_ranges : HasRanges new
@@ -186,18 +195,20 @@ adoptions_free_lem l joining scope addrs maps adopted mods ranges had own free s
 
     unused : (f g : Func) (a : ℕ) → IsAdopted k maps joining f a → get l.addrs g ≢ Some a
     unused f g a x is =
-        elim (had.places g a is) [
-          | inl slot ↦ no_slot f a x slot
-          | inr old ↦
+        elim (none_or (own_site (linkage_of l.process) g)) [
+          | inl none ↦ no_slot f a x (had.places g a none is)
+          | inr some ↦
               let m = g.module in
-              let o = old.0 in
-              let s = old.1 in
-              let standing = mods.standing m o old.2 in
-              let others = old_number l.process joining m o free old.2 in
+              let s = some.0 in
+              let old = own_means (linkage_of l.process) g s some.1 in
+              let o = old.object in
+              let at : a ≡ placed_at (map_at l.maps m) s = one_value (get l.addrs g) a (placed_at (map_at l.maps m) s) is (had.own g s some.1) in
+              let standing = mods.standing m o old.there in
+              let others = old_number l.process joining m o free old.there in
               let stays : map_at maps m ≡ map_at l.maps m = ap (λ ms. map_at ms m) maps' ∙ map_stays joining l.maps addrs m others in
-              let was = private_held l.plan (linkage_of l.process) m o (map_at l.maps m) g s standing.sound standing.mapped (private_means (linkage_of l.process) m o g s old.3) in
+              let was = private_held l.plan (linkage_of l.process) m o (map_at l.maps m) g s standing.sound standing.mapped old.private in
               let now = subst (λ (es : List MapEntry). IsHeldAt l.plan es s) (sym stays) was in
-              let same : placed_at (map_at maps x.joined.number) x.site ≡ placed_at (map_at maps m) s = sym x.place ∙ old.4 ∙ ap (λ es. placed_at es s) (sym stays) in
+              let same : placed_at (map_at maps x.joined.number) x.site ≡ placed_at (map_at maps m) s = sym x.place ∙ at ∙ ap (λ es. placed_at es s) (sym stays) in
               All-contains (λ j. j.number ≢ m) joining x.joined others x.there (meets x.joined.number m x.site s (held f a x) now same)
         ]
 
@@ -213,9 +224,5 @@ adoptions_free_lem l joining scope addrs maps adopted mods ranges had own free s
 
     fresh : (f : Func) (a : ℕ) → IsAdopted k maps joining f a → get l.addrs f ≡ None
     fresh f a x =
-        elim (none_or (get l.addrs f)) [
-          | inl none ↦ none
-          | inr some ↦
-              let dead = (All-contains (HasFreeNumber l.process) joining x.joined free x.there).1 in
-              absurd (live_object (live_at l.process f.module) (had.live f some.0 some.1) (subst (λ (m : ℕ). object_at l.process m ≡ None) (sym x.own.own) dead))
-        ]
+        let dead = (All-contains (HasFreeNumber l.process) joining x.joined free x.there).1 in
+        no_address l f had (subst (λ (m : ℕ). object_at l.process m ≡ None) (sym x.own.own) dead)

@@ -1,33 +1,36 @@
 -- The descriptors after a load.
-use Rattle.std.proofs.Common.{◌≡◌, ℕ, inl, inr, true, cond, List, Option, Some, None, refl, sym, ap, subst, ◌∙◌}
+use Rattle.std.proofs.Common.{◌≡◌, ℕ, inl, inr, true, List, Option, Some, None, refl, sym, ap, subst, ◌∙◌}
 use Rattle.std.specs.Prelude.{Contains, is_some, option_map}
 use Rattle.std.specs.FinMap.{get}
-use Rattle.std.specs.List.{filter_map}
-use Rattle.std.proofs.Math.Path.{fun_ext}
+use Rattle.std.specs.Option.{option_or}
+use Rattle.std.proofs.lemmas.List.Elements.{All-contains}
+use Rattle.fd_base.proofs.Options.{or_stays}
 use Rattle.std.proofs.lemmas.Bool.{false≢true}
 use Rattle.elf_model.specs.declared.func.Func.{Func}
 use Rattle.elf_model.specs.declared.object.Object.{Object}
-use Rattle.elf_model.specs.declared.object.Rel.{Rel}
 use Rattle.func_desc.specs.Pool.{Pool, IsSlot, free_slots}
 use Rattle.func_desc.proofs.Contained.{free_slots_free}
+use Rattle.load_model.specs.declared.module.Joining.{Joining}
 use Rattle.load_model.specs.declared.module.Live.{Live}
 use Rattle.load_model.specs.declared.plan.MemPlan.{MemPlan}
 use Rattle.load_model.specs.Definition.{Linkage}
-use Rattle.load_model.specs.Descriptors.{is_private, pair_of, private_at, privates_of}
+use Rattle.load_model.specs.Descriptors.{listed_addr, privates_of}
 use Rattle.load_map.specs.Maps.{map_at}
 use Rattle.load_map.specs.Translation.{placed as placed_at}
 use Rattle.load_model.specs.Linkage.{linkage_of, members_of}
 use Rattle.load_model.specs.Process.{live_at, is_live, object_at}
-use Rattle.load_model.specs.Sites.{site_value}
+use Rattle.load_model.specs.Sites.{Member}
 use Rattle.load_state.specs.Accepted.{linkage_for, wanted_by}
-use Rattle.load_state.specs.Consistent.{IsDescriptorOf}
+use Rattle.load_state.specs.Consistent.{own_site}
 use Rattle.load_state.specs.Loaded.{pool_of}
 use Rattle.load_map.specs.Maps.{map_at}
 use Rattle.load_laws.proofs.MapsAfter.{map_stays}
 use Rattle.load_laws.proofs.ModulesAfter.{old_number}
 use Rattle.load_laws.specs.parts.DescriptorLaws.{AreAdoptable, DescriptorsStay}
-use Rattle.load_laws.proofs.AdoptedDescriptors.{IsAdopted, adopted_means, adoptions_free_lem}
+use Rattle.load_laws.specs.parts.Premises.{HasFreeNumber}
+use Rattle.load_laws.proofs.AdoptedDescriptors.{IsAdopted, adopted_means, adoptions_free_lem, no_address}
 use Rattle.load_laws.proofs.GivenSlots.{HasFrom, has_from, IsPair, in_zip, one_slot, wanted_object}
+use Rattle.load_laws.proofs.OwnSites.{adopts_first, own_means, private_has_own, same_own}
 use Rattle.fd_base.proofs.Members.{contains_at}
 
 -- ---- live modules
@@ -40,18 +43,13 @@ live_with : (x : Option Live) (o : Object) → option_map (λ live. live.object)
 live_with None o is = absurd cc
 live_with (Some live) o is = refl
 
--- where sites mean the same, the private descriptors are the same
-same_privates : (k q : Linkage) (m : ℕ) (o : Object) → ((r : Rel) → site_value k m o r ≡ site_value q m o r) → privates_of k (m, o) ≡ privates_of q (m, o)
-same_privates k q m o same =
-    let each : private_at k m o ≡ private_at q m o = fun_ext (λ r. ap (λ v. cond (is_private o r) (option_map {U = Func × ℕ} (λ f. (f, r.site)) (pair_of v)) None) (same r)) in
-    ap (λ (own : Rel → Option (Func × ℕ)). filter_map own o.rels) each
-
 -- ---- the law
 
 pub descriptors_stay_lem : DescriptorsStay
 descriptors_stay_lem l new joining scope addrs adopted given mods ranges had ext own free sound placed plan' maps' adopted' given' addrs' = record {
   live = λ f a is. live f a (from f a is);
-  places = λ f a is. place f a (from f a is);
+  own = own_address;
+  places = λ f a none is. place f a none (from f a is);
   distinct = λ f g a p q. one f g a (from f a p) (from g a q);
 }
   where
@@ -100,29 +98,54 @@ descriptors_stay_lem l new joining scope addrs adopted given mods ranges had ext
     new_slot : (a : ℕ) → IsSlot pool a → IsSlot (pool_of new.plan new.addrs) a
     new_slot a is = subst (λ (plan : MemPlan). IsSlot (pool_of plan new.addrs) a) (sym plan') is
 
-    place : (f : Func) (a : ℕ) → HasFrom (get l.addrs) adopted given f a → IsDescriptorOf new f a
-    place f a from =
+    map_left : (m : ℕ) (o : Object) → object_at l.process m ≡ Some o → map_at new.maps m ≡ map_at l.maps m
+    map_left m o before = ap (λ maps. map_at maps m) maps' ∙ map_stays joining l.maps addrs m (old_number l.process joining m o free before)
+
+    -- a function of a module that was live has the own descriptor that it had
+    own_left : (f : Func) (o : Object) → object_at l.process f.module ≡ Some o → own_site (linkage_of new.process) f ≡ own_site (linkage_of l.process) f
+    own_left f o before = let still = ext.old f.module o before in same_own (linkage_of new.process) (linkage_of l.process) f o still.0 before still.1
+
+    -- one of a new module is adopted
+    adopts : (f : Func) (site : ℕ) (j : Joining) → Contains joining j → j.number ≡ f.module → listed_addr (privates_of k (j.number, j.object)) f ≡ Some site
+        → get new.addrs f ≡ Some (placed_at (map_at new.maps f.module) site)
+    adopts f site j there number first =
+        let place : Func × ℕ → ℕ = λ e. placed_at (map_at new.maps e.0.module) e.1 in
+        let dead = (All-contains (HasFreeNumber l.process) joining j free there).1 in
+        let none = no_address l f had (subst (λ (m : ℕ). object_at l.process m ≡ None) number dead) in
+        let listed : listed_addr adopted f ≡ Some (place (f, site)) = ap (λ es. listed_addr es f) adopted' ∙ adopts_first k joining j place f site own there (sym number) first in
+        addrs' f ∙ ap (λ h. option_or h (option_or (listed_addr adopted f) (listed_addr given f))) none
+        ∙ or_stays (listed_addr adopted f) (listed_addr given f) (place (f, site)) listed
+
+    own_address : (f : Func) (site : ℕ) → own_site (linkage_of new.process) f ≡ Some site → get new.addrs f ≡ Some (placed_at (map_at new.maps f.module) site)
+    own_address f site is =
+        let now = own_means (linkage_of new.process) f site is in
+        let o = now.object in
+        elim (ext.only f.module o now.there) [
+          | inl before ↦
+              let had_it = had.own f site (sym (own_left f o before) ∙ is) in
+              let kept = or_stays (get l.addrs f) (option_or (listed_addr adopted f) (listed_addr given f)) (placed_at (map_at l.maps f.module) site) had_it in
+              addrs' f ∙ kept ∙ ap (λ es. Some (placed_at es site)) (sym (map_left f.module o before))
+          | inr found ↦
+              let j = found.0 in
+              let there : listed_addr (privates_of k (f.module, o)) f ≡ Some site = subst (λ (q : Linkage). listed_addr (privates_of q (f.module, o)) f ≡ Some site) ext.linkage' now.first in
+              let member : ◌≡◌ {A = Member} (f.module, o) (j.number, j.object) = λ i. (sym found.2 i, sym found.3 i) in
+              adopts f site j found.1 found.2 (subst (λ (m : Member). listed_addr (privates_of k m) f ≡ Some site) member there)
+        ]
+
+    place : (f : Func) (a : ℕ) → own_site (linkage_of new.process) f ≡ None → HasFrom (get l.addrs) adopted given f a → IsSlot (pool_of new.plan new.addrs) a
+    place f a none from =
         elim from [
-          | inl before ↦ elim (had.places f a before) [
-            | inl is ↦ inl (new_slot a is)
-            | inr old ↦
-                let m = f.module in
-                let o = old.0 in
-                let s = old.1 in
-                let still = ext.old m o old.2 in
-                let stays : map_at new.maps m ≡ map_at l.maps m = ap (λ maps. map_at maps m) maps' ∙ map_stays joining l.maps addrs m (old_number l.process joining m o free old.2) in
-                let listed = subst (λ (es : List (Func × ℕ)). Contains es (f, s)) (sym (same_privates (linkage_of new.process) (linkage_of l.process) m o still.1)) old.3 in
-                inr (o, s, still.0, listed, old.4 ∙ ap (λ es. placed_at es s) (sym stays))
-          ]
+          | inl before ↦
+              let o = object_of (live_at l.process f.module) (had.live f a before) in
+              new_slot a (had.places f a (sym (own_left f o.0 o.1) ∙ none) before)
           | inr rest ↦ elim rest [
             | inl there ↦
                 let x = private f a there in
                 let o = x.joined.object in
-                let number = sym x.own.own in
-                let own' = subst (λ (m : ℕ). Contains (privates_of k (m, o)) (f, x.site)) number x.listed in
+                let own' = subst (λ (m : ℕ). Contains (privates_of k (m, o)) (f, x.site)) (sym x.own.own) x.listed in
                 let listed = subst (λ (q : Linkage). Contains (privates_of q (f.module, o)) (f, x.site)) (sym ext.linkage') own' in
-                inr (o, x.site, joined f a x, listed, x.place ∙ ap (λ m. placed_at (map_at new.maps m) x.site) number)
-            | inr there ↦ inl (new_slot a (free_slots_free.slots pool a (is_free f a there)))
+                absurd (private_has_own (linkage_of new.process) f o x.site (joined f a x) listed none)
+            | inr there ↦ new_slot a (free_slots_free.slots pool a (is_free f a there))
           ]
         ]
 

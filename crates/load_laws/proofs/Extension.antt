@@ -20,7 +20,7 @@ use Rattle.load_sites.specs.parts.Laws.{AgreeFor}
 use Rattle.load_sites.proofs.LookUpsAgree.{mean_the_same}
 use Rattle.load_state.specs.declared.plan.GroupPlan.{GroupPlan}
 use Rattle.load_state.specs.Accepted.{IsPlan}
-use Rattle.load_state.specs.Loaded.{Loaded}
+use Rattle.load_state.specs.Loaded.{LoadedModules}
 use Rattle.load_laws.specs.parts.Premises.{IsExtended}
 use Rattle.load_laws.proofs.AddressesApart.{unwrapped}
 use Rattle.fd_base.proofs.Options.{none_or}
@@ -34,7 +34,7 @@ abbrev object_in : Option Live → Option Object
 object_in x = option_map (λ live. live.object) x
 
 -- what joins a process, and what it leaves
-extends : (l new : Loaded) (joining : List Joining) (scope : List ℕ) → HasFreeNumbers l.process joining → IsJoined l.process new.process joining scope
+extends : (l new : LoadedModules) (joining : List Joining) (scope : List ℕ) → HasFreeNumbers l.process joining → IsJoined l.process new.process joining scope
     → ((m : ℕ) → is_live l.process m ≡ true → IsLeft l.process (linkage_of l.process) (linkage_of new.process) m)
     → IsExtended l new joining scope
 extends l new joining scope numbers join leave = record {
@@ -64,7 +64,7 @@ extends l new joining scope numbers join leave = record {
               inr (j, at.0, at.1, ap (unwrapped j.object) same)
         ]
 
-module _ (l new : Loaded) (files : Option Files) (root : List ℕ) (asked : Bool) (plan : GroupPlan)
+module _ (l new : LoadedModules) (files : Option Files) (root : List ℕ) (asked : Bool) (plan : GroupPlan)
     (valid : IsValid l.process) (planned : IsPlan l files root asked plan)
     (process' : new.process ≡ process_after l.process plan.joining plan.scope plan.global) where
   abbrev names : List (List ℕ)

@@ -21,7 +21,7 @@ use Rattle.load_model.specs.Linkage.{members_of}
 use Rattle.load_model.specs.Sites.{Member}
 use Rattle.load_state.specs.declared.plan.GroupPlan.{GroupPlan}
 use Rattle.load_state.specs.Accepted.{IsPlan, adopted_by, linkage_for, wanted_by}
-use Rattle.load_state.specs.Loaded.{Loaded, pool_of}
+use Rattle.load_state.specs.Loaded.{LoadedModules, pool_of}
 use Rattle.load_map.specs.Maps.{map_at}
 use Rattle.load_laws.proofs.ListedDescriptors.{same_decides}
 use Rattle.load_laws.proofs.GivenSlots.{IsPair, in_zip, one_slot}
@@ -84,7 +84,7 @@ module _ (k : Linkage) (before : Func → Option ℕ) (members : List Member) wh
 
 -- ---- the slots of a plan
 
-module _ (l : Loaded) (files : Option Files) (root : List ℕ) (asked : Bool) (plan : GroupPlan) (planned : IsPlan l files root asked plan) where
+module _ (l : LoadedModules) (files : Option Files) (root : List ℕ) (asked : Bool) (plan : GroupPlan) (planned : IsPlan l files root asked plan) where
   given_pair : (f : Func) (a : ℕ) → Contains plan.given (f, a) → IsPair (wanted_by l plan.joining plan.scope) (free_slots (pool_of l.plan l.addrs)) f a
   given_pair f a there =
       in_zip (wanted_by l plan.joining plan.scope) (free_slots (pool_of l.plan l.addrs)) f a (subst (λ (es : List (Func × ℕ)). Contains es (f, a)) planned.given' there)

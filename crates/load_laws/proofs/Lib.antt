@@ -4,7 +4,6 @@ pub mod ConsistentAfter
 pub mod DescriptorPlaces
 pub mod DescriptorsAfter
 pub mod Extension
-pub mod FirstLoads
 pub mod FreeSlots
 pub mod GivenSlots
 pub mod ImagesAfter
@@ -14,14 +13,17 @@ pub mod MapsAfter
 pub mod MemoryAfter
 pub mod MemorySteps
 pub mod ModulesAfter
+pub mod NewLoaders
 pub mod NewNumbers
 pub mod OwnDescriptors
+pub mod OwnSites
 pub mod PlansDetermined
 pub mod RangesAfter
 pub mod SameBytes
 pub mod SameCertain
 pub mod SameLoads
 pub mod SameMemories
+pub mod SameModules
 pub mod SegmentsApart
 pub mod SiteNames
 pub mod TablesAfter

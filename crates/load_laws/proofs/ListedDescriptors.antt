@@ -1,9 +1,9 @@
 -- Every function whose descriptor a new module refers to has one after the load.
-use Rattle.std.proofs.Common.{◌≡◌, ◌≢◌, ℕ, ◌≤◌, ◌⊎◌, inl, inr, Bool, true, false, ◌||◌, List, [], ◌∷◌, length, map, filter, Option, Some, None, refl, sym, ap, subst, ◌∙◌, arith}
-use Rattle.std.specs.Prelude.{Contains, not, is_some, ◌==◌}
+use Rattle.std.proofs.Common.{◌≡◌, ◌≢◌, ℕ, ◌≤◌, ◌⊎◌, inl, inr, Bool, true, false, cond, ◌||◌, List, [], ◌∷◌, ◌++◌, length, map, filter, Option, Some, None, refl, sym, ap, subst, ◌∙◌, arith}
+use Rattle.std.specs.Prelude.{Contains, not, is_some, option_map, ◌==◌}
 use Rattle.std.specs.Bool.{Decides}
 use Rattle.std.specs.Option.{option_or}
-use Rattle.std.specs.List.{zip}
+use Rattle.std.specs.List.{find, zip}
 use Rattle.std.proofs.lemmas.Bool.{and_parts, and_from, cases_Bool, false≢true, eqb-true, eq-eqb, or_cases}
 use Rattle.fd_base.proofs.Bools.{not_either}
 use Rattle.elf_model.specs.declared.func.Func.{Func}
@@ -28,6 +28,17 @@ pub same_decides : (f g : Func) → Decides (is_same_func f g) (f ≡ g)
 same_decides f g = (same_is f g, is_same f g)
 
 -- ---- lists with addresses
+
+-- two lists, of which the first counts
+pub listed_append : (entries more : List (Func × ℕ)) (f : Func) → listed_addr (entries ++ more) f ≡ option_or (listed_addr entries f) (listed_addr more f)
+listed_append [] more f = refl
+listed_append (e ∷ entries) more f =
+    elim (is_same_func f e.0) as (λ b.
+    option_map (λ (y : Func × ℕ). y.1) (cond b (Some e) (find (λ y. is_same_func f y.0) (entries ++ more)))
+    ≡ option_or (option_map (λ (y : Func × ℕ). y.1) (cond b (Some e) (find (λ y. is_same_func f y.0) entries))) (listed_addr more f)) [
+      | true ↦ refl
+      | false ↦ listed_append entries more f
+    ]
 
 -- a function among others has an address where each of them is listed with one
 pub zip_lists : (fs : List Func) (addrs : List ℕ) (f : Func) → length fs ≤ length addrs → has is_same_func fs f ≡ true → listed_addr (zip fs addrs) f ≢ None

@@ -35,47 +35,47 @@ range_of owner e = record { owner = owner; start = e.addr; len = e.memsz }
 
 -- the places of modules are alike before and after
 pub alike : (l new : Loaded) (plan : GroupPlan) → IsDone l plan new
-    → PlacesAlike (linkage_of l.process) (placing_of l.process l.maps l.addrs) (placing_of new.process new.maps new.addrs)
+    → PlacesAlike (linkage_of l.modules.process) (placing_of l.modules.process l.modules.maps l.modules.addrs) (placing_of new.modules.process new.modules.maps new.modules.addrs)
 alike l new plan done = record {
-  maps' = λ m here. same_map m (none_or (object_at l.process m)) here;
-  gots' = λ m here. same_got m (none_or (object_at l.process m)) here;
-  descriptors' = λ f had. done.committed.addrs' f ∙ or_first (get l.addrs f) _ had;
+  maps' = λ m here. same_map m (none_or (object_at l.modules.process m)) here;
+  gots' = λ m here. same_got m (none_or (object_at l.modules.process m)) here;
+  descriptors' = λ f had. done.committed.addrs' f ∙ or_first (get l.modules.addrs f) _ had;
 }
   where
-    same_map : (m : ℕ) → (object_at l.process m ≡ None) ⊎ ((o : Object) × (object_at l.process m ≡ Some o)) → is_some (object_at l.process m) ≡ true → map_at new.maps m ≡ map_at l.maps m
+    same_map : (m : ℕ) → (object_at l.modules.process m ≡ None) ⊎ ((o : Object) × (object_at l.modules.process m ≡ Some o)) → is_some (object_at l.modules.process m) ≡ true → map_at new.modules.maps m ≡ map_at l.modules.maps m
     same_map m (inl none) here = let never : false ≡ true = ap is_some (sym none) ∙ here in absurd cc
-    same_map m (inr live) here = done.stays m (old_number l.process plan.joining m live.0 done.free live.1)
+    same_map m (inr live) here = done.stays m (old_number l.modules.process plan.joining m live.0 done.free live.1)
 
-    same_got : (m : ℕ) → (object_at l.process m ≡ None) ⊎ ((o : Object) × (object_at l.process m ≡ Some o)) → is_some (object_at l.process m) ≡ true
-        → option_map (λ (o : Object). o.got) (object_at new.process m) ≡ option_map (λ (o : Object). o.got) (object_at l.process m)
+    same_got : (m : ℕ) → (object_at l.modules.process m ≡ None) ⊎ ((o : Object) × (object_at l.modules.process m ≡ Some o)) → is_some (object_at l.modules.process m) ≡ true
+        → option_map (λ (o : Object). o.got) (object_at new.modules.process m) ≡ option_map (λ (o : Object). o.got) (object_at l.modules.process m)
     same_got m (inl none) here = let never : false ≡ true = ap is_some (sym none) ∙ here in absurd cc
     same_got m (inr live) here = ap (option_map (λ (o : Object). o.got)) ((done.ext.old m live.0 live.1).0 ∙ sym live.1)
 
 -- an address of an old module's segment is elsewhere
-pub elsewhere : (l new : Loaded) (plan : GroupPlan) (m k : ℕ) (o : Object) (e : MapEntry) (i : ℕ) → IsDone l plan new → object_at l.process m ≡ Some o
-    → slice_get (map_at new.maps m) k ≡ Some e → i < e.memsz → IsElsewhere plan (e.addr + i)
+pub elsewhere : (l new : Loaded) (plan : GroupPlan) (m k : ℕ) (o : Object) (e : MapEntry) (i : ℕ) → IsDone l plan new → object_at l.modules.process m ≡ Some o
+    → slice_get (map_at new.modules.maps m) k ≡ Some e → i < e.memsz → IsElsewhere plan (e.addr + i)
 elsewhere l new plan m k o e i done live at lt = record {
   segments = λ j n e' joins at'.
-      let placed' : slice_get (map_at new.maps j.number) n ≡ Some e' = subst (λ (maps : List (List MapEntry)). slice_get (map_at maps j.number) n ≡ Some e') (sym done.committed.maps') at' in
-      let mine : Contains new.held (range_of m e) = (done.ranges.held' (range_of m e)).1 (record { entry = e; listed = contains_at (map_at new.maps m) k e at; start' = refl; len' = refl }) in
-      let its : Contains new.held (range_of j.number e') = (done.ranges.held' (range_of j.number e')).1 (record { entry = e'; listed = contains_at (map_at new.maps j.number) n e' placed'; start' = refl; len' = refl }) in
-      let other : j.number ≢ m = All-contains (λ i. i.number ≢ m) plan.joining j (old_number l.process plan.joining m o done.free live) joins in
-      off_range (range_of j.number e') (apart_two new.held (range_of m e) (range_of j.number e') done.ranges.apart mine its (λ is. other (sym (ap (λ (r : Held). r.owner) is))));
+      let placed' : slice_get (map_at new.modules.maps j.number) n ≡ Some e' = subst (λ (maps : List (List MapEntry)). slice_get (map_at maps j.number) n ≡ Some e') (sym done.committed.maps') at' in
+      let mine : Contains new.modules.held (range_of m e) = (done.ranges.held' (range_of m e)).1 (record { entry = e; listed = contains_at (map_at new.modules.maps m) k e at; start' = refl; len' = refl }) in
+      let its : Contains new.modules.held (range_of j.number e') = (done.ranges.held' (range_of j.number e')).1 (record { entry = e'; listed = contains_at (map_at new.modules.maps j.number) n e' placed'; start' = refl; len' = refl }) in
+      let other : j.number ≢ m = All-contains (λ i. i.number ≢ m) plan.joining j (old_number l.modules.process plan.joining m o done.free live) joins in
+      off_range (range_of j.number e') (apart_two new.modules.held (range_of m e) (range_of j.number e') done.ranges.apart mine its (λ is. other (sym (ap (λ (r : Held). r.owner) is))));
   load_maps = λ j joins.
-      let few : j.number < 64 = (All-contains (HasFreeNumber l.process) plan.joining j done.free joins).0 in
-      is_outside (load_map_at j.number) LOAD_MAP_SIZE (e.addr + i) (inr (omega (arith, few, above, low_above l.plan)));
+      let few : j.number < 64 = (All-contains (HasFreeNumber l.modules.process) plan.joining j done.free joins).0 in
+      is_outside (load_map_at j.number) LOAD_MAP_SIZE (e.addr + i) (inr (omega (arith, few, above, low_above l.modules.plan)));
   slots = λ f at'' there.
       let slot = done.slots f at'' there in
-      is_outside at'' DESCRIPTOR_SIZE (e.addr + i) (inr (omega (arith, slot.1, slot.2, above, low_above l.plan)));
+      is_outside at'' DESCRIPTOR_SIZE (e.addr + i) (inr (omega (arith, slot.1, slot.2, above, low_above l.modules.plan)));
 }
   where
-    new_live : object_at new.process m ≡ Some o
+    new_live : object_at new.modules.process m ≡ Some o
     new_live = (done.ext.old m o live).0
 
-    entry : (s : _) × (slice_get o.segments k ≡ Some s) × IsEntryOf new.plan s e
-    entry = zip_at_right (IsEntryOf new.plan) o.segments (map_at new.maps m) k e (done.news.standing m o new_live).mapped at
+    entry : (s : _) × (slice_get o.segments k ≡ Some s) × IsEntryOf new.modules.plan s e
+    entry = zip_at_right (IsEntryOf new.modules.plan) o.segments (map_at new.modules.maps m) k e (done.news.standing m o new_live).mapped at
 
-    above : low_of l.plan ≤ e.addr
+    above : low_of l.modules.plan ≤ e.addr
     above = subst (λ p. low_of p ≤ e.addr) done.committed.plan' entry.2.above
 
     off_range : (q : Held) → (q.start + q.len ≤ e.addr) ⊎ (e.addr + e.memsz ≤ q.start) → is_in q.start q.len (e.addr + i) ≡ false
@@ -87,22 +87,22 @@ images_stay_lem l new plan done had = record {
     | inl was ↦ old_byte m o k e was at i lt watched
     | inr joined ↦
         let j = joined.0 in
-        let at' : slice_get (map_at new.maps j.number) k ≡ Some e = subst (λ (n : ℕ). slice_get (map_at new.maps n) k ≡ Some e) (sym joined.2) at in
+        let at' : slice_get (map_at new.modules.maps j.number) k ≡ Some e = subst (λ (n : ℕ). slice_get (map_at new.modules.maps n) k ≡ Some e) (sym joined.2) at in
         done.committed.images j k e joined.1 at' i lt
-        ∙ ap (λ (x : Object). image_of (linkage_of new.process) (placing_of new.process new.maps new.addrs) j.number x (e.vaddr + i)) joined.3
-        ∙ ap (λ (n : ℕ). image_of (linkage_of new.process) (placing_of new.process new.maps new.addrs) n o (e.vaddr + i)) joined.2
+        ∙ ap (λ (x : Object). image_of (linkage_of new.modules.process) (placing_of new.modules.process new.modules.maps new.modules.addrs) j.number x (e.vaddr + i)) joined.3
+        ∙ ap (λ (n : ℕ). image_of (linkage_of new.modules.process) (placing_of new.modules.process new.modules.maps new.modules.addrs) n o (e.vaddr + i)) joined.2
   ];
 }
   where
-    old_byte : (m : ℕ) (o : Object) (k : ℕ) (e : MapEntry) → object_at l.process m ≡ Some o → slice_get (map_at new.maps m) k ≡ Some e → (i : ℕ) → i < e.memsz
+    old_byte : (m : ℕ) (o : Object) (k : ℕ) (e : MapEntry) → object_at l.modules.process m ≡ Some o → slice_get (map_at new.modules.maps m) k ≡ Some e → (i : ℕ) → i < e.memsz
         → is_watched new.memory (e.addr + i) ≡ true
-        → byte_at new.memory (e.addr + i) ≡ image_of (linkage_of new.process) (placing_of new.process new.maps new.addrs) m o (e.vaddr + i)
+        → byte_at new.memory (e.addr + i) ≡ image_of (linkage_of new.modules.process) (placing_of new.modules.process new.modules.maps new.modules.addrs) m o (e.vaddr + i)
     old_byte m o k e was at i lt watched =
         let same = done.committed.stays (e.addr + i) (elsewhere l new plan m k o e i done was at lt) in
-        let map' = done.stays m (old_number l.process plan.joining m o done.free was) in
-        let at' : slice_get (map_at l.maps m) k ≡ Some e = subst (λ (es : List MapEntry). slice_get es k ≡ Some e) map' at in
+        let map' = done.stays m (old_number l.modules.process plan.joining m o done.free was) in
+        let at' : slice_get (map_at l.modules.maps m) k ≡ Some e = subst (λ (es : List MapEntry). slice_get es k ≡ Some e) map' at in
         let value = (done.ext.old m o was).1 in
         same.byte
         ∙ had.bytes m o k e was at' i lt (sym same.watched ∙ watched)
-        ∙ sym (same_image (linkage_of l.process) (linkage_of new.process) (placing_of l.process l.maps l.addrs) (placing_of new.process new.maps new.addrs) m o (e.vaddr + i)
+        ∙ sym (same_image (linkage_of l.modules.process) (linkage_of new.modules.process) (placing_of l.modules.process l.modules.maps l.modules.addrs) (placing_of new.modules.process new.modules.maps new.modules.addrs) m o (e.vaddr + i)
         (alike l new plan done) was value (done.mods.standing m o was).described)

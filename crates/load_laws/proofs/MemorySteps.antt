@@ -20,7 +20,7 @@ use Rattle.load_map.proofs.Imaged.{length-bytes_of_map}
 use Rattle.load_memory.proofs.KeptLayout.{stores_keep-fixed, stores_keep-layout}
 use Rattle.fd_base.proofs.Ranges.{is_outside, is_inside}
 use Rattle.load_laws.proofs.TablesAfter.{live_below}
-use Rattle.load_state.specs.Consistent.{IsConsistent, IsEntryOf, HasDescriptors, HasModules, HasRanges, HoldsImages, HoldsTables}
+use Rattle.load_state.specs.Consistent.{IsConsistent, IsEntryOf, HoldsImages, HoldsTables}
 use Rattle.load_state.specs.Loaded.{Loaded, in_memory, pool_of}
 use Rattle.load_map.specs.Maps.{map_at}
 use Rattle.load_laws.specs.parts.StepLaws.{StepsKeepConsistent}
@@ -40,43 +40,19 @@ module _ (l : Loaded) (memory : GuestMemory) (c : IsConsistent l) (keeps : Keeps
 
   stub_stays : (a : ℕ) → 0x1000 ≤ a → a < 0x1014 → byte_at memory a ≡ byte_at l.memory a
   stub_stays a above below =
-      stores_keep-fixed l.plan (in_memory l.process l.maps) l.memory memory a Code keeps c.laid_out (in_stubs l.plan a above below) (λ e. cc)
+      stores_keep-fixed l.modules.plan (in_memory l.modules.process l.modules.maps) l.memory memory a Code keeps c.laid_out (in_stubs l.modules.plan a above below) (λ e. cc)
 
-  table_stays : (a : ℕ) → 0x1400 ≤ a → a < slots_end l.plan → byte_at memory a ≡ byte_at l.memory a
+  table_stays : (a : ℕ) → 0x1400 ≤ a → a < slots_end l.modules.plan → byte_at memory a ≡ byte_at l.memory a
   table_stays a above below =
-      stores_keep-fixed l.plan (in_memory l.process l.maps) l.memory memory a Fixed keeps c.laid_out (in_tables l.plan a above below) (λ e. cc)
+      stores_keep-fixed l.modules.plan (in_memory l.modules.process l.modules.maps) l.memory memory a Fixed keeps c.laid_out (in_tables l.modules.plan a above below) (λ e. cc)
 
   in_map : (m i : ℕ) → m < 64 → i < LOAD_MAP_SIZE → byte_at memory (load_map_at m + i) ≡ byte_at l.memory (load_map_at m + i)
   in_map m i few lt = table_stays (load_map_at m + i) (omega arith) (omega arith)
 
-  in_slot : (a i : ℕ) → IsSlot (pool_of l.plan l.addrs) a → i < DESCRIPTOR_SIZE → byte_at memory (a + i) ≡ byte_at l.memory (a + i)
+  in_slot : (a i : ℕ) → IsSlot (pool_of l.modules.plan l.modules.addrs) a → i < DESCRIPTOR_SIZE → byte_at memory (a + i) ≡ byte_at l.memory (a + i)
   in_slot a i slot lt = table_stays (a + i) (omega (arith, slot.2)) (omega (arith, slot.1, slot.2))
 
-  -- ---- parts that don't name the memory
-
-  modules_hold : HasModules later
-  modules_hold = record {
-    count = c.modules'.count;
-    standing = λ m o live.
-        let its = c.modules'.standing m o live in
-        record { sound = its.sound; mapped = its.mapped; apart = its.apart; filled = its.filled; described = its.described };
-    others = c.modules'.others;
-  }
-
-  ranges_hold : HasRanges later
-  ranges_hold = record {
-    held' = λ r.
-        let its = c.ranges.held' r in (
-          λ there. let p = its.0 there in record { entry = p.entry; listed = p.listed; start' = p.start'; len' = p.len' },
-          λ p. its.1 (record { entry = p.entry; listed = p.listed; start' = p.start'; len' = p.len' }),
-        );
-    apart = c.ranges.apart;
-  }
-
-  descriptors_hold : HasDescriptors later
-  descriptors_hold = record { live = c.descriptors.live; places = c.descriptors.places; distinct = c.descriptors.distinct }
-
-  -- ---- parts that do
+  -- ---- what the memory holds
 
   images_hold : HoldsImages later
   images_hold = record {
@@ -85,18 +61,18 @@ module _ (l : Loaded) (memory : GuestMemory) (c : IsConsistent l) (keeps : Keeps
         keeps.bytes (e.addr + i) (inl was) ∙ c.images.bytes m o k e live at i lt was;
   }
 
-  short : (m : ℕ) (o : Object) → object_at l.process m ≡ Some o → length (map_image.bytes_of_map (map_at l.maps m)) ≤ LOAD_MAP_SIZE
+  short : (m : ℕ) (o : Object) → object_at l.modules.process m ≡ Some o → length (map_image.bytes_of_map (map_at l.modules.maps m)) ≤ LOAD_MAP_SIZE
   short m o live =
       let standing = c.modules'.standing m o live in
-      let count = zip_length (IsEntryOf l.plan) o.segments (map_at l.maps m) standing.mapped in
-      omega (arith, length-bytes_of_map (map_at l.maps m), count, standing.sound.few)
+      let count = zip_length (IsEntryOf l.modules.plan) o.segments (map_at l.modules.maps m) standing.mapped in
+      omega (arith, length-bytes_of_map (map_at l.modules.maps m), count, standing.sound.few)
 
-  load_map_holds : (m : ℕ) (o : Object) → object_at l.process m ≡ Some o → HasLoadMap memory m (map_at l.maps m)
+  load_map_holds : (m : ℕ) (o : Object) → object_at l.modules.process m ≡ Some o → HasLoadMap memory m (map_at l.modules.maps m)
   load_map_holds m o live =
-      let few = live_below l.process m o c.valid live in
+      let few = live_below l.modules.process m o c.valid live in
       let size = short m o live in
       let was = c.tables.load_maps m o live in
-      let n = length (map_image.bytes_of_map (map_at l.maps m)) in
+      let n = length (map_image.bytes_of_map (map_at l.modules.maps m)) in
       record {
         bytes = λ i lt. in_map m i few (omega (arith, lt, size)) ∙ was.bytes i lt;
         rest = λ i lt.
@@ -111,17 +87,17 @@ module _ (l : Loaded) (memory : GuestMemory) (c : IsConsistent l) (keeps : Keeps
     load_maps = load_map_holds;
     other_maps = λ m few none i lt. in_map m i few lt ∙ c.tables.other_maps m few none i lt;
     slots = λ f a is slot i lt. in_slot a i slot lt ∙ c.tables.slots f a is slot i lt;
-    free = λ a there i lt. in_slot a i (free_slots_free.slots (pool_of l.plan l.addrs) a there) lt ∙ c.tables.free a there i lt;
+    free = λ a there i lt. in_slot a i (free_slots_free.slots (pool_of l.modules.plan l.modules.addrs) a there) lt ∙ c.tables.free a there i lt;
   }
 
   stays : IsConsistent later
   stays = record {
     fits = c.fits;
     valid = c.valid;
-    modules' = modules_hold;
-    ranges = ranges_hold;
-    descriptors = descriptors_hold;
-    laid_out = stores_keep-layout l.plan (in_memory l.process l.maps) l.memory memory keeps c.laid_out;
+    modules' = c.modules';
+    ranges = c.ranges;
+    descriptors = c.descriptors;
+    laid_out = stores_keep-layout l.modules.plan (in_memory l.modules.process l.modules.maps) l.memory memory keeps c.laid_out;
     images = images_hold;
     tables = tables_hold;
   }

@@ -12,7 +12,7 @@ use Rattle.load_process.proofs.WalkFacts.{facts_of, free_numbers_law}
 use Rattle.load_process.specs.parts.TakenObjects.{IsTaken}
 use Rattle.load_state.specs.declared.plan.GroupPlan.{GroupPlan}
 use Rattle.load_state.specs.Accepted.{IsPlan}
-use Rattle.load_state.specs.Loaded.{Loaded}
+use Rattle.load_state.specs.Loaded.{LoadedModules}
 use Rattle.load_laws.specs.parts.Premises.{HaveOwnNumbers, HasFreeNumber}
 
 pub own_of : (joining : List Joining) → AllPairs (λ j k. j.number ≢ k.number) joining → HaveOwnNumbers joining
@@ -29,7 +29,7 @@ free_of p joining small none k d lt = (small k d lt, ap (option_map (λ live. li
 pub sound_of : (joining : List Joining) → All (λ j. IsTaken j.object) joining → All (λ j. IsSound j.object) joining
 sound_of joining taken k d lt = (taken k d lt).sound
 
-module _ (l : Loaded) (files : Option Files) (root : List ℕ) (asked : Bool) (plan : GroupPlan) (planned : IsPlan l files root asked plan) where
+module _ (l : LoadedModules) (files : Option Files) (root : List ℕ) (asked : Bool) (plan : GroupPlan) (planned : IsPlan l files root asked plan) where
   pub free_numbers_of : HasFreeNumbers l.process plan.joining
   free_numbers_of =
       let names = planned.scoped.names in

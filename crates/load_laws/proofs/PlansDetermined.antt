@@ -19,12 +19,12 @@ use Rattle.func_desc.specs.Pool.{free_slots}
 use Rattle.load_state.specs.declared.plan.GroupPlan.{GroupPlan}
 use Rattle.load_state.specs.Accepted.{IsPlan, IsScoped, linkage_for, CanBeFilled, wanted_by, all_items, maps_after, adopted_by, given_by}
 use Rattle.load_state.specs.parts.Determined.{SamePlan, PlansAreDetermined}
-use Rattle.load_state.specs.Loaded.{Loaded, pool_of}
+use Rattle.load_state.specs.Loaded.{LoadedModules, pool_of}
 use Rattle.load_state.specs.Refused.{IsRefused, HasUnfilledSite, LacksSlots, HasNoPlace}
 
 -- ---- what is linked
 
-linked_once : (l : Loaded) (told : Files) (root : List ℕ) (js ks : List Joining) (s t : List ℕ) → IsScoped l.process (Some told) root js s → IsScoped l.process (Some told) root ks t → (js ≡ ks) × (s ≡ t)
+linked_once : (l : LoadedModules) (told : Files) (root : List ℕ) (js ks : List Joining) (s t : List ℕ) → IsScoped l.process (Some told) root js s → IsScoped l.process (Some told) root ks t → (js ≡ ks) × (s ≡ t)
 linked_once l told root js ks s t a b =
     let same = walks_are_determined.same_walk l.process told root js ks a.names b.names a.walk b.walk in (
       same.0,
@@ -36,13 +36,13 @@ linked_once l told root js ks s t a b =
 
 -- ---- why a load is refused, by the stage
 
-pub data Cause (l : Loaded) (files : Option Files) (root : List ℕ) (r : LoadRefusal) : Type 0 where
+pub data Cause (l : LoadedModules) (files : Option Files) (root : List ℕ) (r : LoadRefusal) : Type 0 where
   Walking : IsWalkRefused l.process files root r → Cause l files root r
   Filling : HasUnfilledSite l.process files root r → Cause l files root r
   Giving : (n : ℕ) → r ≡ DescriptorsFull n → LacksSlots l files root n → Cause l files root r
   Placing : (i : ℕ) → r ≡ NoRoom i → HasNoPlace l files root i → Cause l files root r
 
-cause_of : (l : Loaded) (files : Option Files) (root : List ℕ) (r : LoadRefusal) → IsRefused l files root r → Cause l files root r
+cause_of : (l : LoadedModules) (files : Option Files) (root : List ℕ) (r : LoadRefusal) → IsRefused l files root r → Cause l files root r
 cause_of l files root TooManyModules h = Walking h
 cause_of l files root (TooLong n) h = Walking h
 cause_of l files root (NoFile n) h = Walking h
@@ -63,23 +63,23 @@ abbrev unwrapped : {X : Type 0} → X → Option X → X
 unwrapped d None = d
 unwrapped d (Some x) = x
 
-filled_or_not : (l : Loaded) (told : Files) (root : List ℕ) (js : List Joining) (s : List ℕ) (r : LoadRefusal) → IsScoped l.process (Some told) root js s → CanBeFilled l js s → HasUnfilledSite l.process (Some told) root r → ⊥
+filled_or_not : (l : LoadedModules) (told : Files) (root : List ℕ) (js : List Joining) (s : List ℕ) (r : LoadRefusal) → IsScoped l.process (Some told) root js s → CanBeFilled l js s → HasUnfilledSite l.process (Some told) root r → ⊥
 filled_or_not l told root js s r a filled site =
     let same = linked_once l told root js site.joining s site.scope a site.scoped in
     let here : CanBeFilled l site.joining site.scope = subst (λ (t : List ℕ). CanBeFilled l site.joining t) same.1 (subst (λ (k : List Joining). CanBeFilled l k s) same.0 filled) in
     none_some (first_refusal (linkage_for l site.joining site.scope) (members_of site.joining)) r here site.first
 
-enough_or_not : (l : Loaded) (told : Files) (root : List ℕ) (js : List Joining) (s : List ℕ) (n : ℕ) → IsScoped l.process (Some told) root js s → length (wanted_by l js s) ≤ length (free_slots (pool_of l.plan l.addrs)) → LacksSlots l (Some told) root n → ⊥
+enough_or_not : (l : LoadedModules) (told : Files) (root : List ℕ) (js : List Joining) (s : List ℕ) (n : ℕ) → IsScoped l.process (Some told) root js s → length (wanted_by l js s) ≤ length (free_slots (pool_of l.plan l.addrs)) → LacksSlots l (Some told) root n → ⊥
 enough_or_not l told root js s n a enough slots =
     let same = linked_once l told root js slots.joining s slots.scope a slots.scoped in
     let here : length (wanted_by l slots.joining slots.scope) ≤ length (free_slots (pool_of l.plan l.addrs)) =
     subst (λ (t : List ℕ). length (wanted_by l slots.joining t) ≤ length (free_slots (pool_of l.plan l.addrs))) same.1 (subst (λ (k : List Joining). length (wanted_by l k s) ≤ length (free_slots (pool_of l.plan l.addrs))) same.0 enough) in
     omega (arith, here, slots.free, slots.more)
 
-walked_or_not : (l : Loaded) (told : Files) (root : List ℕ) (js : List Joining) (s : List ℕ) (r : LoadRefusal) → IsScoped l.process (Some told) root js s → IsWalkRefused l.process (Some told) root r → ⊥
+walked_or_not : (l : LoadedModules) (told : Files) (root : List ℕ) (js : List Joining) (s : List ℕ) (r : LoadRefusal) → IsScoped l.process (Some told) root js s → IsWalkRefused l.process (Some told) root r → ⊥
 walked_or_not l told root js s r a walk = walks_are_determined.exclusive l.process told root js a.names r a.walk walk
 
-one_cause : (l : Loaded) (told : Files) (root : List ℕ) (r q : LoadRefusal) → Cause l (Some told) root r → Cause l (Some told) root q → r ≡ q
+one_cause : (l : LoadedModules) (told : Files) (root : List ℕ) (r q : LoadRefusal) → Cause l (Some told) root r → Cause l (Some told) root q → r ≡ q
 one_cause l told root r q (Walking h) (Walking k) = walks_are_determined.same_refusal l.process told root r q h k
 one_cause l told root r q (Walking h) (Filling k) = absurd (walked_or_not l told root k.joining k.scope r k.scoped h)
 one_cause l told root r q (Walking h) (Giving n e k) = absurd (walked_or_not l told root k.joining k.scope r k.scoped h)
@@ -106,7 +106,7 @@ one_cause l told root r q (Placing i e h) (Placing j f k) =
     subst (λ (x : List Joining). FailsAt (low_of l.plan) (high_of l.plan) l.held (all_items l.plan.places x) i) same.0 h.fails in
     e ∙ ap NoRoom (fails_once (low_of l.plan) (high_of l.plan) l.held (all_items l.plan.places k.joining) i j here k.fails) ∙ sym f
 
-plan_or_cause : (l : Loaded) (told : Files) (root : List ℕ) (asked : Bool) (g : GroupPlan) (r : LoadRefusal) → IsPlan l (Some told) root asked g → Cause l (Some told) root r → ⊥
+plan_or_cause : (l : LoadedModules) (told : Files) (root : List ℕ) (asked : Bool) (g : GroupPlan) (r : LoadRefusal) → IsPlan l (Some told) root asked g → Cause l (Some told) root r → ⊥
 plan_or_cause l told root asked g r p (Walking h) = walked_or_not l told root g.joining g.scope r p.scoped h
 plan_or_cause l told root asked g r p (Filling h) = filled_or_not l told root g.joining g.scope r p.scoped p.filled h
 plan_or_cause l told root asked g r p (Giving n e h) = enough_or_not l told root g.joining g.scope n p.scoped p.enough h
@@ -118,7 +118,7 @@ plan_or_cause l told root asked g r p (Placing i e h) =
 
 -- ---- one plan
 
-same_plan : (l : Loaded) (told : Files) (root : List ℕ) (asked : Bool) (g h : GroupPlan) → IsPlan l (Some told) root asked g → IsPlan l (Some told) root asked h → SamePlan g h
+same_plan : (l : LoadedModules) (told : Files) (root : List ℕ) (asked : Bool) (g h : GroupPlan) → IsPlan l (Some told) root asked g → IsPlan l (Some told) root asked h → SamePlan g h
 same_plan l told root asked g h p q = record {
   root' = one_value (number_among l.process g.joining root) g.root h.root p.root' (ap (λ (x : List Joining). number_among l.process x root) joining ∙ q.root');
   joining' = joining;

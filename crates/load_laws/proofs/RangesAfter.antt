@@ -19,7 +19,7 @@ use Rattle.load_model.specs.Process.{object_at}
 use Rattle.load_image.specs.Items.{items_of, item_of, load_map_of}
 use Rattle.load_state.specs.Accepted.{items_for, all_items, maps_after}
 use Rattle.load_state.specs.Consistent.{HasModules, IsPlacedRange}
-use Rattle.load_state.specs.Loaded.{Loaded}
+use Rattle.load_state.specs.Loaded.{LoadedModules}
 use Rattle.load_map.specs.Maps.{map_at}
 use Rattle.load_laws.specs.parts.Premises.{HaveOwnNumbers, HasFreeNumber}
 use Rattle.load_laws.specs.parts.LoadLaws.{RangesStay}
@@ -91,7 +91,7 @@ joins_or_not (j ∷ joining) m =
     ]
 
 -- a module that is placed before the load isn't new
-pub live_is_old : (l : Loaded) (joining : List Joining) (m : ℕ) (e : MapEntry) → HasModules l → All (HasFreeNumber l.process) joining → Contains (map_at l.maps m) e
+pub live_is_old : (l : LoadedModules) (joining : List Joining) (m : ℕ) (e : MapEntry) → HasModules l → All (HasFreeNumber l.process) joining → Contains (map_at l.maps m) e
     → All (λ j. j.number ≢ m) joining
 live_is_old l joining m e mods free there k d lt is =
     let none : object_at l.process m ≡ None = subst (λ (n : ℕ). object_at l.process n ≡ None) is (free k d lt).1 in

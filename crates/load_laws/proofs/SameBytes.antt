@@ -56,9 +56,9 @@ module _ (plan : MemPlan) (s t : Loaded) (h : IsNew plan s) (k : IsNew plan t) w
   stub_same a le lt =
       elim (cases_lt a THREAD_END) [
         | inl before ↦ words_same s.memory t.memory RESOLVER RESOLVER_WORDS 12 a (length-bytes_of_words RESOLVER_WORDS)
-            h.consistent.tables.resolver k.consistent.tables.resolver le before
+            h.resolver k.resolver le before
         | inr behind ↦ words_same s.memory t.memory THREAD_END END_WORDS 8 a (length-bytes_of_words END_WORDS)
-            h.consistent.tables.ends k.consistent.tables.ends behind lt
+            h.ends k.ends behind lt
       ]
 
   start_by : (a : ℕ) (b : Bool) → is_in RESOLVER (STUBS_END - RESOLVER) a ≡ b → byte_at s.memory a ≡ byte_at t.memory a

@@ -45,18 +45,18 @@ use Rattle.load_laws.proofs.ModulesAfter.{old_number}
 -- ---- addresses below the modules
 
 -- a new segment lies above all tables
-off_segments : (l new : Loaded) (plan : GroupPlan) (a : ℕ) → IsDone l plan new → a < low_of l.plan
+off_segments : (l new : Loaded) (plan : GroupPlan) (a : ℕ) → IsDone l plan new → a < low_of l.modules.plan
     → (j : Joining) (k : ℕ) (e : MapEntry) → Contains plan.joining j → slice_get (map_at plan.maps j.number) k ≡ Some e → is_in e.addr e.memsz a ≡ false
 off_segments l new plan a done low j k e joins at =
-    let at' : slice_get (map_at new.maps j.number) k ≡ Some e = subst (λ (maps : List (List MapEntry)). slice_get (map_at maps j.number) k ≡ Some e) (sym done.committed.maps') at in
-    let entry = zip_at_right (IsEntryOf new.plan) j.object.segments (map_at new.maps j.number) k e (done.news.standing j.number j.object (done.ext.fresh j joins)).mapped at' in
-    let above : low_of l.plan ≤ e.addr = subst (λ p. low_of p ≤ e.addr) done.committed.plan' entry.2.above in
+    let at' : slice_get (map_at new.modules.maps j.number) k ≡ Some e = subst (λ (maps : List (List MapEntry)). slice_get (map_at maps j.number) k ≡ Some e) (sym done.committed.maps') at in
+    let entry = zip_at_right (IsEntryOf new.modules.plan) j.object.segments (map_at new.modules.maps j.number) k e (done.news.standing j.number j.object (done.ext.fresh j joins)).mapped at' in
+    let above : low_of l.modules.plan ≤ e.addr = subst (λ p. low_of p ≤ e.addr) done.committed.plan' entry.2.above in
     is_outside e.addr e.memsz a (inl (omega arith))
 
 -- an address below all load maps
 below_maps : (l new : Loaded) (plan : GroupPlan) (a : ℕ) → IsDone l plan new → a < 0x1400 → IsElsewhere plan a
 below_maps l new plan a done lt = record {
-  segments = off_segments l new plan a done (omega (arith, low_above l.plan));
+  segments = off_segments l new plan a done (omega (arith, low_above l.modules.plan));
   load_maps = λ j joins. is_outside (load_map_at j.number) LOAD_MAP_SIZE a (inl (omega arith));
   slots = λ f at there. let slot = done.slots f at there in is_outside at DESCRIPTOR_SIZE a (inl (omega (arith, slot.2)));
 }
@@ -64,7 +64,7 @@ below_maps l new plan a done lt = record {
 -- an address in the load map of a number that nobody gets
 in_load_map : (l new : Loaded) (plan : GroupPlan) (m i : ℕ) → IsDone l plan new → m < 64 → i < LOAD_MAP_SIZE → All (λ j. j.number ≢ m) plan.joining → IsElsewhere plan (load_map_at m + i)
 in_load_map l new plan m i done few lt others = record {
-  segments = off_segments l new plan (load_map_at m + i) done (omega (arith, low_above l.plan));
+  segments = off_segments l new plan (load_map_at m + i) done (omega (arith, low_above l.modules.plan));
   load_maps = λ j joins.
       let other : j.number ≢ m = All-contains (λ x. x.number ≢ m) plan.joining j others joins in
       is_outside (load_map_at j.number) LOAD_MAP_SIZE (load_map_at m + i) (off_map j.number other);
@@ -79,19 +79,19 @@ in_load_map l new plan m i done few lt others = record {
         ]
 
 -- an address in a slot that no function gets
-in_slot : (l new : Loaded) (plan : GroupPlan) (a i : ℕ) → IsDone l plan new → IsSlot (pool_of l.plan l.addrs) a → i < DESCRIPTOR_SIZE
+in_slot : (l new : Loaded) (plan : GroupPlan) (a i : ℕ) → IsDone l plan new → IsSlot (pool_of l.modules.plan l.modules.addrs) a → i < DESCRIPTOR_SIZE
     → ((f : Func) (at : ℕ) → Contains plan.given (f, at) → at ≢ a) → IsElsewhere plan (a + i)
 in_slot l new plan a i done slot lt others = record {
-  segments = off_segments l new plan (a + i) done (omega (arith, slot.1, slot.2, low_above l.plan));
+  segments = off_segments l new plan (a + i) done (omega (arith, slot.1, slot.2, low_above l.modules.plan));
   load_maps = λ j joins.
-      let few : j.number < 64 = (All-contains (HasFreeNumber l.process) plan.joining j done.free joins).0 in
+      let few : j.number < 64 = (All-contains (HasFreeNumber l.modules.process) plan.joining j done.free joins).0 in
       is_outside (load_map_at j.number) LOAD_MAP_SIZE (a + i) (inr (omega (arith, few, slot.2)));
   slots = λ f at there.
       let its = done.slots f at there in
       is_outside at DESCRIPTOR_SIZE (a + i) (off_slot at its (others f at there));
 }
   where
-    off_slot : (at : ℕ) → IsSlot (pool_of l.plan l.addrs) at → at ≢ a → (a + i < at) ⊎ (at + DESCRIPTOR_SIZE ≤ a + i)
+    off_slot : (at : ℕ) → IsSlot (pool_of l.modules.plan l.modules.addrs) at → at ≢ a → (a + i < at) ⊎ (at + DESCRIPTOR_SIZE ≤ a + i)
     off_slot at its other =
         elim (cases_lt at a) [
           | inl less ↦ inr (omega (arith, its.2, slot.2))
@@ -161,44 +161,44 @@ tables_stay_lem l new plan done gives has had = record {
   ends = same_bytes l new plan THREAD_END (bytes_of_words END_WORDS) done (λ i lt. below_maps l new plan (THREAD_END + i) done (omega arith)) had.ends;
   load_maps = λ m o live. elim (done.ext.only m o live) [
     | inl was ↦ old_map m o was
-    | inr joined ↦ subst (λ (n : ℕ). HasLoadMap new.memory n (map_at new.maps n)) joined.2 (done.committed.load_maps joined.0 joined.1)
+    | inr joined ↦ subst (λ (n : ℕ). HasLoadMap new.memory n (map_at new.modules.maps n)) joined.2 (done.committed.load_maps joined.0 joined.1)
   ];
   other_maps = λ m few none. others m few none;
   slots = slot_pairs;
   free = free_ones;
 }
   where
-    short : (m : ℕ) (o : Object) → object_at l.process m ≡ Some o → length (map_image.bytes_of_map (map_at l.maps m)) ≤ 112
+    short : (m : ℕ) (o : Object) → object_at l.modules.process m ≡ Some o → length (map_image.bytes_of_map (map_at l.modules.maps m)) ≤ 112
     short m o live =
         let standing = done.mods.standing m o live in
-        let count = zip_length (IsEntryOf l.plan) o.segments (map_at l.maps m) standing.mapped in
-        omega (arith, map_size (map_at l.maps m), count, standing.sound.few)
+        let count = zip_length (IsEntryOf l.modules.plan) o.segments (map_at l.modules.maps m) standing.mapped in
+        omega (arith, map_size (map_at l.modules.maps m), count, standing.sound.few)
 
-    below : (m : ℕ) (o : Object) → object_at l.process m ≡ Some o → m < 64
-    below m o live = live_below l.process m o done.valid live
+    below : (m : ℕ) (o : Object) → object_at l.modules.process m ≡ Some o → m < 64
+    below m o live = live_below l.modules.process m o done.valid live
 
-    old_map : (m : ℕ) (o : Object) → object_at l.process m ≡ Some o → HasLoadMap new.memory m (map_at new.maps m)
+    old_map : (m : ℕ) (o : Object) → object_at l.modules.process m ≡ Some o → HasLoadMap new.memory m (map_at new.modules.maps m)
     old_map m o live =
-        let not = old_number l.process plan.joining m o done.free live in
+        let not = old_number l.modules.process plan.joining m o done.free live in
         let map' = done.stays m not in
         let size = short m o live in
         let was = had.load_maps m o live in
         let at : (i : ℕ) → i < LOAD_MAP_SIZE → IsElsewhere plan (load_map_at m + i) = λ i lt. in_load_map l new plan m i done (below m o live) lt not in
         subst (λ (es : List MapEntry). HasLoadMap new.memory m es) (sym map') (record {
-          bytes = same_bytes l new plan (load_map_at m) (map_image.bytes_of_map (map_at l.maps m)) done (λ i lt. at i (omega arith)) was.bytes;
+          bytes = same_bytes l new plan (load_map_at m) (map_image.bytes_of_map (map_at l.modules.maps m)) done (λ i lt. at i (omega arith)) was.bytes;
           rest = λ i lt.
-              let next : load_map_at m + length (map_image.bytes_of_map (map_at l.maps m)) + i ≡ load_map_at m + (length (map_image.bytes_of_map (map_at l.maps m)) + i) = omega arith in
-              (done.committed.stays (load_map_at m + length (map_image.bytes_of_map (map_at l.maps m)) + i) (subst (λ (a : ℕ). IsElsewhere plan a) (sym next) (at (length (map_image.bytes_of_map (map_at l.maps m)) + i) (omega (arith, lt, size))))).byte ∙ was.rest i lt;
+              let next : load_map_at m + length (map_image.bytes_of_map (map_at l.modules.maps m)) + i ≡ load_map_at m + (length (map_image.bytes_of_map (map_at l.modules.maps m)) + i) = omega arith in
+              (done.committed.stays (load_map_at m + length (map_image.bytes_of_map (map_at l.modules.maps m)) + i) (subst (λ (a : ℕ). IsElsewhere plan a) (sym next) (at (length (map_image.bytes_of_map (map_at l.modules.maps m)) + i) (omega (arith, lt, size))))).byte ∙ was.rest i lt;
         })
 
-    nothing_new : (m : ℕ) → object_at new.process m ≡ None → (j : Joining) → Contains plan.joining j → j.number ≢ m
+    nothing_new : (m : ℕ) → object_at new.modules.process m ≡ None → (j : Joining) → Contains plan.joining j → j.number ≢ m
     nothing_new m none j joins is =
-        let some : None ≡ Some j.object = sym none ∙ subst (λ (n : ℕ). object_at new.process n ≡ Some j.object) is (done.ext.fresh j joins) in
+        let some : None ≡ Some j.object = sym none ∙ subst (λ (n : ℕ). object_at new.modules.process n ≡ Some j.object) is (done.ext.fresh j joins) in
         absurd cc
 
-    others : (m : ℕ) → m < 64 → object_at new.process m ≡ None → IsBlank new.memory (load_map_at m) LOAD_MAP_SIZE
+    others : (m : ℕ) → m < 64 → object_at new.modules.process m ≡ None → IsBlank new.memory (load_map_at m) LOAD_MAP_SIZE
     others m few none =
-        elim (none_or (object_at l.process m)) [
+        elim (none_or (object_at l.modules.process m)) [
           | inl was ↦
               same_zeros l new plan (load_map_at m) LOAD_MAP_SIZE done
               (λ i lt. in_load_map l new plan m i done few lt (λ k d in' is. nothing_new m none (get_or plan.joining k d) (Contains-get_or plan.joining k d in') is))
@@ -206,25 +206,25 @@ tables_stay_lem l new plan done gives has had = record {
           | inr live ↦ let some : None ≡ Some live.0 = sym none ∙ (done.ext.old m live.0 live.1).0 in absurd cc
         ]
 
-    old_slot : (a : ℕ) → IsSlot (pool_of new.plan new.addrs) a → IsSlot (pool_of l.plan l.addrs) a
+    old_slot : (a : ℕ) → IsSlot (pool_of new.modules.plan new.modules.addrs) a → IsSlot (pool_of l.modules.plan l.modules.addrs) a
     old_slot a slot = (slot.0, subst (λ p. slot.0 < p.descriptors) done.committed.plan' slot.1, slot.2)
 
-    old_pair : (f : Func) (a : ℕ) → get l.addrs f ≡ Some a → IsSlot (pool_of l.plan l.addrs) a
-        → HasPair new.memory a (place_of (placing_of new.process new.maps new.addrs) f) (got_of (placing_of new.process new.maps new.addrs) f.module)
+    old_pair : (f : Func) (a : ℕ) → get l.modules.addrs f ≡ Some a → IsSlot (pool_of l.modules.plan l.modules.addrs) a
+        → HasPair new.memory a (place_of (placing_of new.modules.process new.modules.maps new.modules.addrs) f) (got_of (placing_of new.modules.process new.modules.maps new.modules.addrs) f.module)
     old_pair f a was slot =
-        let p = placing_of l.process l.maps l.addrs in
-        let q = placing_of new.process new.maps new.addrs in
-        let here : is_some (object_at l.process f.module) ≡ true = some_object (live_at l.process f.module) (has.live f a was) in
+        let p = placing_of l.modules.process l.modules.maps l.modules.addrs in
+        let q = placing_of new.modules.process new.modules.maps new.modules.addrs in
+        let here : is_some (object_at l.modules.process f.module) ≡ true = some_object (live_at l.modules.process f.module) (has.live f a was) in
         let off : (i : ℕ) → i < 8 → IsElsewhere plan (a + i) = λ i lt. in_slot l new plan a i done slot lt (λ g at there same. gives.unused g f at there (was ∙ ap Some (sym same))) in
         let stays : HasPair new.memory a (place_of p f) (got_of p f.module) =
         same_bytes l new plan a (bytes_of_words (place_of p f ∷ got_of p f.module ∷ [])) done off (had.slots f a was slot) in
-        subst (λ (x : ℕ). HasPair new.memory a x (got_of q f.module)) (sym (same_place (linkage_of l.process) p q f (alike l new plan done) here))
-        (subst (λ (x : ℕ). HasPair new.memory a (place_of p f) x) (sym (same_got (linkage_of l.process) p q f.module (alike l new plan done) here)) stays)
+        subst (λ (x : ℕ). HasPair new.memory a x (got_of q f.module)) (sym (same_place (linkage_of l.modules.process) p q f (alike l new plan done) here))
+        (subst (λ (x : ℕ). HasPair new.memory a (place_of p f) x) (sym (same_got (linkage_of l.modules.process) p q f.module (alike l new plan done) here)) stays)
 
-    slot_pairs : (f : Func) (a : ℕ) → get new.addrs f ≡ Some a → IsSlot (pool_of new.plan new.addrs) a
-        → HasPair new.memory a (place_of (placing_of new.process new.maps new.addrs) f) (got_of (placing_of new.process new.maps new.addrs) f.module)
+    slot_pairs : (f : Func) (a : ℕ) → get new.modules.addrs f ≡ Some a → IsSlot (pool_of new.modules.plan new.modules.addrs) a
+        → HasPair new.memory a (place_of (placing_of new.modules.process new.modules.maps new.modules.addrs) f) (got_of (placing_of new.modules.process new.modules.maps new.modules.addrs) f.module)
     slot_pairs f a is slot =
-        elim (or_cases_of_three (get l.addrs f) (listed_addr plan.adopted f) (listed_addr plan.given f) a (sym (done.committed.addrs' f) ∙ is)) [
+        elim (or_cases_of_three (get l.modules.addrs f) (listed_addr plan.adopted f) (listed_addr plan.given f) a (sym (done.committed.addrs' f) ∙ is)) [
           | inl was ↦ old_pair f a was (old_slot a slot)
           | inr rest ↦ elim rest [
             | inl own ↦ absurd (gives.elsewhere f a (listed_in plan.adopted f a own) (old_slot a slot))
@@ -232,12 +232,12 @@ tables_stay_lem l new plan done gives has had = record {
           ]
         ]
 
-    free_ones : (a : ℕ) → Contains (free_slots (pool_of new.plan new.addrs)) a → IsBlank new.memory a DESCRIPTOR_SIZE
+    free_ones : (a : ℕ) → Contains (free_slots (pool_of new.modules.plan new.modules.addrs)) a → IsBlank new.memory a DESCRIPTOR_SIZE
     free_ones a there =
-        let slot = old_slot a (free_slots_free.slots (pool_of new.plan new.addrs) a there) in
-        let unused : (f : Func) → get new.addrs f ≢ Some a = λ f. free_slots_free.unused (pool_of new.plan new.addrs) a f there in
-        let before : (f : Func) → get l.addrs f ≢ Some a = λ f was. unused f (done.committed.addrs' f ∙ or_stays (get l.addrs f) _ a was) in
-        let free = free_slots_free.all (pool_of l.plan l.addrs) a slot before in
+        let slot = old_slot a (free_slots_free.slots (pool_of new.modules.plan new.modules.addrs) a there) in
+        let unused : (f : Func) → get new.modules.addrs f ≢ Some a = λ f. free_slots_free.unused (pool_of new.modules.plan new.modules.addrs) a f there in
+        let before : (f : Func) → get l.modules.addrs f ≢ Some a = λ f was. unused f (done.committed.addrs' f ∙ or_stays (get l.modules.addrs f) _ a was) in
+        let free = free_slots_free.all (pool_of l.modules.plan l.modules.addrs) a slot before in
         same_zeros l new plan a DESCRIPTOR_SIZE done
         (λ i lt. in_slot l new plan a i done slot lt (λ f at given same. unused f (gives.held' f at given ∙ ap Some same)))
         (had.free a free)

@@ -1,6 +1,11 @@
-//! What holds of a loader after a load. A call of it does nothing.
+//! What holds of a new loader, and of a loader after a load. A call of one does nothing.
 
-ghost use Rattle.load_laws.specs.parts.ConsistencyLaws.{LoadsKeepConsistent};
+ghost use Rattle.load_laws.specs.parts.ConsistencyLaws.{LoadsKeepConsistent, NewIsConsistent};
+
+/// A loader that has loaded nothing is consistent.
+pub fn new_is_consistent()
+    ensures { NewIsConsistent }
+{}
 
 /// A loader that is consistent stays so when a plan of its own is committed.
 pub fn loads_keep_consistent()

@@ -8,8 +8,8 @@ mod determined;
 mod loads;
 mod steps;
 
-pub use consistent::loads_keep_consistent;
-pub use descriptors::{adoptions_are_free, descriptors_stay};
+pub use consistent::{loads_keep_consistent, new_is_consistent};
+pub use descriptors::{addresses_stay, adoptions_are_free, descriptors_stay};
 pub use determined::{loads_are_determined, plans_are_determined};
 pub use loads::{images_stay, modules_stay, ranges_stay, tables_stay};
 pub use steps::steps_keep_consistent;

@@ -19,7 +19,7 @@ const MAX_SIZE: usize = 100;
 const _: () = prove!(HEAD_SIZE + ENTRY_SIZE * MAX_ENTRIES == MAX_SIZE);
 
 /// The bytes of a load map, at most 100.
-#[derive(Debug, Drop)]
+#[derive(Drop)]
 pub struct MapImage {
     bytes: [u8; 100],
     len: usize,

@@ -16,7 +16,7 @@ use std::marker::Model;
 pub const MAX_ENTRIES: usize = 8;
 
 /// Where the segments of one module lie.
-#[derive(Debug, Drop)]
+#[derive(Drop)]
 pub struct LoadMap {
     entries: Vec<MapEntry>,
 }

@@ -5,6 +5,7 @@ pub mod Image
 pub mod Joined
 pub mod Layout
 pub mod Linkage
+pub mod Numbers
 pub mod Plan
 pub mod Process
 pub mod Sites

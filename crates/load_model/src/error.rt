@@ -8,7 +8,7 @@ use std::alloc::AllocError;
 /// in which they are needed: for each `TooManyModules`, `TooLong`, `NoFile` and `Elf`. Then come the places that
 /// loading fills, over the new modules in order and in each over DT_REL, DT_JMPREL and the fixups in table order: for
 /// each `Unresolved`, `NotCode` or `BadAddress`. Then come `DescriptorsFull` and `NoRoom`.
-#[derive(Debug, Drop)]
+#[derive(Drop)]
 pub enum LoadRefusal {
     /// What was asked for is not built yet, for the program of this name.
     NotBuilt(Name),
@@ -34,7 +34,7 @@ pub enum LoadRefusal {
 }
 
 /// Why nothing is loaded.
-#[derive(Debug, Drop)]
+#[derive(Drop)]
 pub enum LoadErr {
     Refused(LoadRefusal),
     /// The store's fault, which it has counted.

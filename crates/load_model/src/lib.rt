@@ -3,6 +3,7 @@
 #![tactic(auto)]
 
 mod error;
+mod laws;
 mod layout;
 mod maps;
 mod meaning;
@@ -12,6 +13,7 @@ mod process;
 mod words;
 
 pub use error::{LoadErr, LoadRefusal};
+pub use laws::numbers;
 pub use layout::{
     END_WORDS, LOAD_MAP_SIZE, LOAD_MAPS, PROCESS_END, RESOLVER, RESOLVER_WORDS, STUBS_END,
     THREAD_END,

@@ -4,7 +4,7 @@ use elf_model::Func;
 use symbol_scope::Found;
 
 /// What a symbol means in the module that refers to it.
-#[derive(Clone, Copy, Debug, PartialEq, Eq)]
+#[derive(Clone, Copy, PartialEq, Eq)]
 pub enum Definition {
     /// A symbol of a module, which may be another one.
     Symbol(Found),
@@ -15,7 +15,7 @@ pub enum Definition {
 }
 
 /// The value of a symbol.
-#[derive(Clone, Copy, Debug, PartialEq, Eq)]
+#[derive(Clone, Copy, PartialEq, Eq)]
 pub enum Value {
     /// A link address of a module.
     Address(Func),
@@ -24,7 +24,7 @@ pub enum Value {
 }
 
 /// What loading writes at a site.
-#[derive(Clone, Copy, Debug, PartialEq, Eq)]
+#[derive(Clone, Copy, PartialEq, Eq)]
 pub enum SiteValue {
     /// One word: the placed address of a link address of a module.
     Place(Func),

@@ -4,7 +4,7 @@ use elf_model::Object;
 use fd_base::{Name, Numbers, Seq};
 
 /// A live module: a loaded object.
-#[derive(Debug, Drop)]
+#[derive(Drop)]
 pub struct Live {
     /// The name under which its file was fetched. No two live modules have one name.
     pub name: Name,
@@ -17,7 +17,7 @@ pub struct Live {
 }
 
 /// Modules that were loaded together.
-#[derive(Debug, Drop)]
+#[derive(Drop)]
 pub struct Group {
     /// The numbers of the modules in which their symbols are looked up, in this order. It never changes.
     pub scope: Numbers,
@@ -29,7 +29,7 @@ pub type Modules = Seq<Option<Live>>;
 pub type Groups = Seq<Option<Group>>;
 
 /// A process without addresses.
-#[derive(Debug, Drop)]
+#[derive(Drop)]
 pub struct SymbolicProcess {
     /// A place for each module number. None has no live module.
     pub modules: Modules,
@@ -40,7 +40,7 @@ pub struct SymbolicProcess {
 }
 
 /// A module that a load adds, and the number that it gets.
-#[derive(Debug, Drop)]
+#[derive(Drop)]
 pub struct Joining {
     /// Its module number, from 0 to 63.
     pub number: u32,

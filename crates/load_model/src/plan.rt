@@ -15,7 +15,7 @@ pub const DESCRIPTOR_SIZE: u32 = 8;
 pub const THREADS: u32 = 8;
 
 /// How the memory of a process is parted.
-#[derive(Debug, Drop)]
+#[derive(Drop)]
 pub struct MemPlan {
     /// How many bytes there are, from address 0 on.
     pub memory: u32,
@@ -28,7 +28,7 @@ pub struct MemPlan {
 }
 
 /// The addresses that are listed for the segments of one module, in their order.
-#[derive(Debug, Drop)]
+#[derive(Drop)]
 pub struct PlaceLine {
     /// The name of the module.
     pub name: Name,

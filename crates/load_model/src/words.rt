@@ -1,7 +1,7 @@
 //! Words that loading writes.
 
 /// A word that loading writes at a link address.
-#[derive(Clone, Copy, Debug, PartialEq, Eq)]
+#[derive(Clone, Copy)]
 pub struct LinkWord {
     /// The link address of its first byte.
     pub addr: u32,
@@ -10,7 +10,7 @@ pub struct LinkWord {
 }
 
 /// What a slot holds.
-#[derive(Clone, Copy, Debug, PartialEq, Eq)]
+#[derive(Clone, Copy, PartialEq, Eq)]
 pub struct SlotPair {
     /// The placed address of the slot.
     pub addr: u32,

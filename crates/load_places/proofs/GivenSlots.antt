@@ -43,23 +43,23 @@ given_room l files root asked plan consistent planned taken = record {
       apart (get_or plan.given i d) (get_or plan.given k d) (slot_at i d (omega arith)) (slot_at k d below) (rising i k d lt below);
 }
   where
-    slot : (e : Func × ℕ) → Contains plan.given e → IsSlot (pool_of l.plan l.addrs) e.1
-    slot e there = given_slot l files root asked plan planned e.0 e.1 there
+    slot : (e : Func × ℕ) → Contains plan.given e → IsSlot (pool_of l.modules.plan l.modules.addrs) e.1
+    slot e there = given_slot l.modules files root asked plan planned e.0 e.1 there
 
-    slot_at : (i : ℕ) (d : Func × ℕ) → i < length plan.given → IsSlot (pool_of l.plan l.addrs) (get_or plan.given i d).1
+    slot_at : (i : ℕ) (d : Func × ℕ) → i < length plan.given → IsSlot (pool_of l.modules.plan l.modules.addrs) (get_or plan.given i d).1
     slot_at i d lt = slot (get_or plan.given i d) (Contains-get_or plan.given i d lt)
 
     inside : (e : Func × ℕ) → Contains plan.given e → e.1 + DESCRIPTOR_SIZE ≤ length l.memory.bytes
     inside e there =
-        let end = slot_ends l.plan l.addrs e.1 (slot e there) in
-        let above : slots_end l.plan ≤ low_of l.plan = low_above l.plan in
-        let size : length l.memory.bytes ≡ l.plan.memory = consistent.laid_out.size in
+        let end = slot_ends l.modules.plan l.modules.addrs e.1 (slot e there) in
+        let above : slots_end l.modules.plan ≤ low_of l.modules.plan = low_above l.modules.plan in
+        let size : length l.memory.bytes ≡ l.modules.plan.memory = consistent.laid_out.size in
         omega (arith, end, above, size, consistent.fits.modules)
 
     rising : AllPairs (λ (d e : Func × ℕ). d.1 < e.1) plan.given
     rising =
         subst (λ (es : List (Func × ℕ)). AllPairs (λ (d e : Func × ℕ). d.1 < e.1) es) (sym planned.given')
-        (zip_pairs (λ a b. a < b) (wanted_by l plan.joining plan.scope) (free_slots (pool_of l.plan l.addrs)) (free_slots_free.rising (pool_of l.plan l.addrs)))
+        (zip_pairs (λ a b. a < b) (wanted_by l.modules plan.joining plan.scope) (free_slots (pool_of l.modules.plan l.modules.addrs)) (free_slots_free.rising (pool_of l.modules.plan l.modules.addrs)))
 
-    apart : (d e : Func × ℕ) → IsSlot (pool_of l.plan l.addrs) d.1 → IsSlot (pool_of l.plan l.addrs) e.1 → d.1 < e.1 → DescriptorsApart d e
-    apart d e one two lt = inl (slots_apart l.plan l.addrs d.1 e.1 one two lt)
+    apart : (d e : Func × ℕ) → IsSlot (pool_of l.modules.plan l.modules.addrs) d.1 → IsSlot (pool_of l.modules.plan l.modules.addrs) e.1 → d.1 < e.1 → DescriptorsApart d e
+    apart d e one two lt = inl (slots_apart l.modules.plan l.modules.addrs d.1 e.1 one two lt)

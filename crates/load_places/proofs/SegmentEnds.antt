@@ -14,7 +14,7 @@ use Rattle.load_process.specs.parts.TakenObjects.{IsTaken}
 use Rattle.load_state.specs.declared.plan.GroupPlan.{GroupPlan}
 use Rattle.load_state.specs.Accepted.{IsPlan}
 use Rattle.load_state.specs.Consistent.{IsConsistent, HasModules, IsEntryOf}
-use Rattle.load_state.specs.Loaded.{Loaded}
+use Rattle.load_state.specs.Loaded.{Loaded, LoadedModules}
 use Rattle.load_map.specs.Maps.{map_at}
 use Rattle.fd_base.proofs.Options.{none_or}
 use Rattle.load_laws.proofs.RangesAfter.{joins_or_not}
@@ -28,7 +28,7 @@ high_below plan small = omega arith
 ends : (plan : MemPlan) (ss : List Segment) (es : List MapEntry) → plan.memory < 2 ^ 32 → AllZip (IsEntryOf plan) ss es → All EndsBelow es
 ends plan ss es small all = second_each (IsEntryOf plan) EndsBelow (λ s e entry. omega (arith, entry.below, high_below plan small)) ss es all
 
-old_ends : (l : Loaded) (m : ℕ) → HasModules l → l.plan.memory < 2 ^ 32 → All EndsBelow (map_at l.maps m)
+old_ends : (l : LoadedModules) (m : ℕ) → HasModules l → l.plan.memory < 2 ^ 32 → All EndsBelow (map_at l.maps m)
 old_ends l m mods small =
     elim (none_or (object_at l.process m)) [
       | inl none ↦ subst (All EndsBelow) (sym (mods.others m none)) (All-nil EndsBelow)
@@ -44,14 +44,14 @@ maps_end_lem = record {
   new = λ l files root asked plan consistent planned taken small. by_number plan.maps (λ m. new_ends l files root asked plan consistent planned taken small m);
 }
   where
-    new_ends : (l : Loaded) (files : Option Files) (root : List ℕ) (asked : Bool) (plan : GroupPlan) → IsConsistent l → IsPlan l files root asked plan
-        → All (λ j. IsTaken j.object) plan.joining → l.plan.memory < 2 ^ 32 → (m : ℕ) → All EndsBelow (map_at plan.maps m)
+    new_ends : (l : Loaded) (files : Option Files) (root : List ℕ) (asked : Bool) (plan : GroupPlan) → IsConsistent l → IsPlan l.modules files root asked plan
+        → All (λ j. IsTaken j.object) plan.joining → l.modules.plan.memory < 2 ^ 32 → (m : ℕ) → All EndsBelow (map_at plan.maps m)
     new_ends l files root asked plan consistent planned taken small m =
         elim (joins_or_not plan.joining m) [
           | inl new ↦
               let j = new.0 in
               subst (λ (n : ℕ). All EndsBelow (map_at plan.maps n)) new.2
-              (ends l.plan j.object.segments (map_at plan.maps j.number) small (new_entries l files root asked plan consistent planned taken j new.1))
+              (ends l.modules.plan j.object.segments (map_at plan.maps j.number) small (new_entries l files root asked plan consistent planned taken j new.1))
           | inr others ↦
-              subst (All EndsBelow) (sym (map_left l files root asked plan consistent planned taken m others)) (old_ends l m consistent.modules' small)
+              subst (All EndsBelow) (sym (map_left l files root asked plan consistent planned taken m others)) (old_ends l.modules m consistent.modules' small)
         ]

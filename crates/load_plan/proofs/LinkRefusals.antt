@@ -26,7 +26,7 @@ use Rattle.elf_model.specs.Filled.{site_relocations}
 use Rattle.load_model.specs.Walk.{IsWalkRefused}
 use Rattle.fd_base.proofs.Members.{in_filter_map, in_flat_map}
 use Rattle.load_process.proofs.Lists.{at_some}
-use Rattle.load_state.specs.Loaded.{Loaded}
+use Rattle.load_state.specs.Loaded.{LoadedModules}
 use Rattle.load_state.specs.Refused.{IsRefused, HasUnfilledSite}
 use Rattle.load_plan.specs.parts.LinkedLoad.{IsUnlinked}
 use Rattle.load_plan.specs.parts.LinkedLoad.IsUnlinked.{Walking, Filling}
@@ -113,7 +113,7 @@ first_kind l members r is =
 
 -- ---- the refusals of loads
 
-walked : (l : Loaded) (files : Option Files) (root : List ℕ) (r : LoadRefusal) → IsWalkRefused l.process files root r → IsRefused l files root r
+walked : (l : LoadedModules) (files : Option Files) (root : List ℕ) (r : LoadRefusal) → IsWalkRefused l.process files root r → IsRefused l files root r
 walked l files root TooManyModules w = w
 walked l files root (TooLong n) w = w
 walked l files root (NoFile n) w = w
@@ -125,7 +125,7 @@ walked l files root (DescriptorsFull n) w = absurd w
 walked l files root (NoRoom i) w = absurd w
 walked l files root (NotBuilt n) w = absurd w
 
-unfilled : (l : Loaded) (files : Option Files) (root : List ℕ) (r : LoadRefusal) → IsOfSite r → HasUnfilledSite l.process files root r → IsRefused l files root r
+unfilled : (l : LoadedModules) (files : Option Files) (root : List ℕ) (r : LoadRefusal) → IsOfSite r → HasUnfilledSite l.process files root r → IsRefused l files root r
 unfilled l files root TooManyModules p s = absurd p
 unfilled l files root (TooLong n) p s = absurd p
 unfilled l files root (NoFile n) p s = absurd p
@@ -137,11 +137,11 @@ unfilled l files root (DescriptorsFull n) p s = absurd p
 unfilled l files root (NoRoom i) p s = absurd p
 unfilled l files root (NotBuilt n) p s = absurd p
 
-unlinked : (l : Loaded) (files : Option Files) (root : List ℕ) (r : LoadRefusal) → IsUnlinked l.process files root r → IsRefused l files root r
+unlinked : (l : LoadedModules) (files : Option Files) (root : List ℕ) (r : LoadRefusal) → IsUnlinked l.process files root r → IsRefused l files root r
 unlinked l files root r (Walking w) = walked l files root r w
 unlinked l files root r (Filling s) = unfilled l files root r (first_kind (linkage_with l.process s.joining s.scope) (members_of s.joining) r s.first) s
 
-pub told_refused : (l : Loaded) (files : Option Files) (root : List ℕ) (old now : ℕ) (e : LoadErr) → Explains (IsUnlinked l.process files root) old now e
+pub told_refused : (l : LoadedModules) (files : Option Files) (root : List ℕ) (old now : ℕ) (e : LoadErr) → Explains (IsUnlinked l.process files root) old now e
     → Explains (IsRefused l files root) old now e
 told_refused l files root old now (Refused r) why = unlinked l files root r why
 told_refused l files root old now StoreFault why = why

@@ -5,7 +5,6 @@ use Rattle.std.specs.List.{range_with_len, zip}
 use Rattle.fd_base.specs.Fetched.{Files}
 use Rattle.func_desc.specs.Functions.{has_addr}
 use Rattle.func_desc.specs.Pool.{Pool, free_slots, slot_addr}
-use Rattle.guest_mem.specs.Memory.{GuestMemory}
 use Rattle.placement.specs.Placed.{Placed, FailsAt}
 use Rattle.placement.specs.Space.{Space}
 use Rattle.load_model.specs.declared.error.LoadErr.{LoadErr}
@@ -30,15 +29,15 @@ use Rattle.load_plan.specs.parts.LinkedLoad.{IsLinked}
 abbrev slots_from : Pool → ℕ → ℕ → List ℕ
 slots_from pool base slots = filter (λ a. not (has_addr pool.addrs a)) (map (slot_addr base) (range_with_len 0 slots))
 
-same_free : (s : Standing) (space : Space) (pool : Pool) (memory : GuestMemory) → IsRoomy s space pool → free_slots pool ≡ free_slots (pool_of s.plan.now pool.addrs)
-same_free s space pool memory roomy = ap (λ base. slots_from pool base pool.slots) roomy.base' ∙ ap (λ slots. slots_from pool 0x3000 slots) roomy.slots'
+same_free : (s : Standing) (space : Space) (pool : Pool) → IsRoomy s space pool → free_slots pool ≡ free_slots (pool_of s.plan.now pool.addrs)
+same_free s space pool roomy = ap (λ base. slots_from pool base pool.slots) roomy.base' ∙ ap (λ slots. slots_from pool 0x3000 slots) roomy.slots'
 
-enough_by : (s : Standing) (space : Space) (pool : Pool) (memory : GuestMemory) (files : Option Files) (root : List ℕ) (linked : Linked) → IsRoomy s space pool
+enough_by : (s : Standing) (space : Space) (pool : Pool) (files : Option Files) (root : List ℕ) (linked : Linked) → IsRoomy s space pool
     → IsLinked s.process.now pool.addrs files root linked → length linked.wanted ≤ length (free_slots pool)
-    → length (wanted_by (loaded_by s space pool memory) linked.joining linked.scope) ≤ length (free_slots (pool_of s.plan.now pool.addrs))
-enough_by s space pool memory files root linked roomy is enough =
-    let free : length (free_slots pool) ≡ length (free_slots (pool_of s.plan.now pool.addrs)) = ap length (same_free s space pool memory roomy) in
-    let wanted : length linked.wanted ≡ length (wanted_by (loaded_by s space pool memory) linked.joining linked.scope) = ap length is.wanted' in
+    → length (wanted_by (loaded_by s space pool) linked.joining linked.scope) ≤ length (free_slots (pool_of s.plan.now pool.addrs))
+enough_by s space pool files root linked roomy is enough =
+    let free : length (free_slots pool) ≡ length (free_slots (pool_of s.plan.now pool.addrs)) = ap length (same_free s space pool roomy) in
+    let wanted : length linked.wanted ≡ length (wanted_by (loaded_by s space pool) linked.joining linked.scope) = ap length is.wanted' in
     omega (arith, free, wanted, enough)
 
 -- what the plan has of what is linked and laid out
@@ -56,37 +55,37 @@ plan_from linked layout global parts = record {
   parts = parts;
 }
 
-pub planned : (s : Standing) (space : Space) (pool : Pool) (memory : GuestMemory) (files : Option Files) (root : List ℕ) (asked : Bool) (linked : Linked) (layout : Layout)
+pub planned : (s : Standing) (space : Space) (pool : Pool) (files : Option Files) (root : List ℕ) (asked : Bool) (linked : Linked) (layout : Layout)
     (global : List ℕ) (parts : List (List (List ℕ))) → IsRoomy s space pool → IsLinked s.process.now pool.addrs files root linked → IsLaid s space pool linked layout
     → global ≡ global_after s.process.now asked linked.scope
     → AreFinished (linkage_with s.process.now linked.joining linked.scope)
     (placing_by s.process.now pool.addrs linked.joining layout.maps layout.adopted layout.given) linked.joining layout.maps parts
-    → IsPlan (loaded_by s space pool memory) files root asked (plan_from linked layout global parts)
-planned s space pool memory files root asked linked layout global parts roomy is laid global' finished =
-    let l = loaded_by s space pool memory in
+    → IsPlan (loaded_by s space pool) files root asked (plan_from linked layout global parts)
+planned s space pool files root asked linked layout global parts roomy is laid global' finished =
+    let l = loaded_by s space pool in
     record {
       scoped = is.scoped;
       root' = is.root';
       global' = global';
       filled = is.filled;
-      enough = enough_by s space pool memory files root linked roomy is laid.enough;
+      enough = enough_by s space pool files root linked roomy is laid.enough;
       items' = laid.items';
       placed' = subst (λ (high : ℕ). Placed (low_of s.plan.now) high space.held layout.items layout.addrs) roomy.high'
           (subst (λ (low : ℕ). Placed low space.high space.held layout.items layout.addrs) roomy.low' laid.placed');
       maps' = laid.maps';
       adopted' = laid.adopted' ∙ ap (λ ps. placed_pairs_of layout.maps ps) is.privates';
-      given' = laid.given' ∙ ap (λ wanted. zip wanted (free_slots pool)) is.wanted' ∙ ap (λ free. zip (wanted_by l linked.joining linked.scope) free) (same_free s space pool memory roomy);
+      given' = laid.given' ∙ ap (λ wanted. zip wanted (free_slots pool)) is.wanted' ∙ ap (λ free. zip (wanted_by l linked.joining linked.scope) free) (same_free s space pool roomy);
       parts' = finished;
     }
 
 -- ---- refusals
 
-pub unlaid : (s : Standing) (space : Space) (pool : Pool) (memory : GuestMemory) (files : Option Files) (root : List ℕ) (linked : Linked) (old now : ℕ) (e : LoadErr)
+pub unlaid : (s : Standing) (space : Space) (pool : Pool) (files : Option Files) (root : List ℕ) (linked : Linked) (old now : ℕ) (e : LoadErr)
     → IsRoomy s space pool → IsLinked s.process.now pool.addrs files root linked → IsUnlaid s space pool linked e
-    → Explains (IsRefused (loaded_by s space pool memory) files root) old now e
-unlaid s space pool memory files root linked old now (Refused (DescriptorsFull n)) roomy is why =
-    let free : length (free_slots pool) ≡ length (free_slots (pool_of s.plan.now pool.addrs)) = ap length (same_free s space pool memory roomy) in
-    let wanted : length linked.wanted ≡ length (wanted_by (loaded_by s space pool memory) linked.joining linked.scope) = ap length is.wanted' in
+    → Explains (IsRefused (loaded_by s space pool) files root) old now e
+unlaid s space pool files root linked old now (Refused (DescriptorsFull n)) roomy is why =
+    let free : length (free_slots pool) ≡ length (free_slots (pool_of s.plan.now pool.addrs)) = ap length (same_free s space pool roomy) in
+    let wanted : length linked.wanted ≡ length (wanted_by (loaded_by s space pool) linked.joining linked.scope) = ap length is.wanted' in
     record {
       joining = linked.joining;
       scope = linked.scope;
@@ -95,22 +94,22 @@ unlaid s space pool memory files root linked old now (Refused (DescriptorsFull n
       free = why.0 ∙ free;
       more = omega (arith, wanted, why.1);
     }
-unlaid s space pool memory files root linked old now (Refused (NoRoom i)) roomy is why = record {
+unlaid s space pool files root linked old now (Refused (NoRoom i)) roomy is why = record {
   joining = linked.joining;
   scope = linked.scope;
   scoped = is.scoped;
   filled = is.filled;
-  enough = enough_by s space pool memory files root linked roomy is why.0;
+  enough = enough_by s space pool files root linked roomy is why.0;
   fails = subst (λ (high : ℕ). FailsAt (low_of s.plan.now) high space.held (all_items s.plan.now.places linked.joining) i) roomy.high'
       (subst (λ (low : ℕ). FailsAt low space.high space.held (all_items s.plan.now.places linked.joining) i) roomy.low' why.1);
 }
-unlaid s space pool memory files root linked old now (Refused TooManyModules) roomy is why = absurd why
-unlaid s space pool memory files root linked old now (Refused (TooLong n)) roomy is why = absurd why
-unlaid s space pool memory files root linked old now (Refused (NoFile n)) roomy is why = absurd why
-unlaid s space pool memory files root linked old now (Refused (Elf n r)) roomy is why = absurd why
-unlaid s space pool memory files root linked old now (Refused (Unresolved m n)) roomy is why = absurd why
-unlaid s space pool memory files root linked old now (Refused (NotCode m n)) roomy is why = absurd why
-unlaid s space pool memory files root linked old now (Refused (BadAddress m site)) roomy is why = absurd why
-unlaid s space pool memory files root linked old now (Refused (NotBuilt n)) roomy is why = absurd why
-unlaid s space pool memory files root linked old now StoreFault roomy is why = absurd why
-unlaid s space pool memory files root linked old now NoMemory roomy is why = tt
+unlaid s space pool files root linked old now (Refused TooManyModules) roomy is why = absurd why
+unlaid s space pool files root linked old now (Refused (TooLong n)) roomy is why = absurd why
+unlaid s space pool files root linked old now (Refused (NoFile n)) roomy is why = absurd why
+unlaid s space pool files root linked old now (Refused (Elf n r)) roomy is why = absurd why
+unlaid s space pool files root linked old now (Refused (Unresolved m n)) roomy is why = absurd why
+unlaid s space pool files root linked old now (Refused (NotCode m n)) roomy is why = absurd why
+unlaid s space pool files root linked old now (Refused (BadAddress m site)) roomy is why = absurd why
+unlaid s space pool files root linked old now (Refused (NotBuilt n)) roomy is why = absurd why
+unlaid s space pool files root linked old now StoreFault roomy is why = absurd why
+unlaid s space pool files root linked old now NoMemory roomy is why = tt

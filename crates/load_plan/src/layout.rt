@@ -18,7 +18,7 @@ use placement::{Addrs, Items, Ranges};
 use std::alloc::Global;
 
 /// What is loaded when a load is planned.
-#[derive(Debug, Drop)]
+#[derive(Drop)]
 pub struct Standing<'a> {
     pub alloc: Global,
     pub plan: &'a MemPlan,
@@ -28,7 +28,7 @@ pub struct Standing<'a> {
 }
 
 /// Where the new modules of a load go, and which descriptors they bring.
-#[derive(Debug, Drop)]
+#[derive(Drop)]
 pub struct Layout {
     pub items: Items,
     pub addrs: Addrs,
@@ -55,6 +55,7 @@ pub fn lay_out(
     ensures ends { IfOk result (λ l. All (All EndsBelow) l.maps) }
     ensures room { IfOk result (λ l. length l.items ≤ ranges.new.room) }
     ensures error { IfErr result (IsUnlaid standing.entry.now ranges.old pool.now linked.entry.now) }
+    ensures grows { ranges.old.room ≤ ranges.new.room }
     ensures stays { ranges.new ≡ record ranges.old { room = ranges.new.room } }
 {
     let alloc = standing.alloc;

@@ -26,7 +26,7 @@ use std::alloc::Global;
 use symbol_scope::Tables;
 
 /// What a load links.
-#[derive(Debug, Drop)]
+#[derive(Drop)]
 pub struct Linked {
     /// The number of the module that is asked for.
     pub root: u32,
@@ -43,7 +43,7 @@ pub struct Linked {
 }
 
 /// What is written at the sites of new modules, and which descriptors they have and need.
-#[derive(Debug, Drop)]
+#[derive(Drop)]
 struct Resolved {
     values: Seq<Values>,
     privates: Privates,

@@ -46,7 +46,7 @@ fn items_of_all(alloc: Global, places: &[PlaceLine], joining: &[Joining]) -> Res
 }
 
 /// Where new segments go. Their ranges are not held yet.
-#[derive(Debug, Drop)]
+#[derive(Drop)]
 pub struct Placing {
     pub items: Items,
     pub addrs: Addrs,
@@ -67,6 +67,7 @@ pub fn place(
     ensures placed { IfOk result (λ p. IsPlaced ranges.old p.items p.addrs) }
     ensures room { IfOk result (λ p. length p.items ≤ ranges.new.room) }
     ensures error { IfErr result (IsUnplaced ranges.old (all_items places.now joining.now)) }
+    ensures grows { ranges.old.room ≤ ranges.new.room }
     ensures stays { ranges.new ≡ record ranges.old { room = ranges.new.room } }
 {
     let items = items_of_all(alloc, places, joining)?;

@@ -7,10 +7,12 @@ ghost use Rattle.load_process.specs.parts.TakenObjects.{IsTaken};
 ghost use Rattle.load_sites.specs.parts.Values.{IsValues};
 ghost use Rattle.load_image.specs.parts.Bounds.{IsMapOf};
 ghost use Rattle.load_map.specs.parts.IsLoadMap.{EndsBelow};
-ghost use Rattle.load_state.specs.Accepted.{AreFinished, placing_by};
+ghost use Rattle.load_model.specs.Explains.{Explains};
+ghost use Rattle.load_state.specs.Accepted.{AreFinished, IsPlan, placing_by};
+ghost use Rattle.load_state.specs.Refused.{IsRefused};
 ghost use Rattle.load_map.specs.Maps.{map_at};
 ghost use Rattle.load_plan.specs.parts.Tables.{HasTables};
-ghost use Rattle.load_plan.specs.parts.Layout.{IsErrorOver, IsPlannable, IsPlanOver};
+ghost use Rattle.load_plan.specs.parts.Layout.{IsPlannable, loaded_by};
 ghost use Rattle.load_plan.specs.parts.LinkedLoad.{AreNew};
 
 use crate::filling::{gots, parts};
@@ -54,6 +56,7 @@ fn finished(
 /// Makes room for so many adoptions. There is never room for 2^32 of them.
 fn reserve(pool: &mut DescPool, n: usize) -> Result<(), Memory>
     ensures room { OnOk result (n ≤ pool.new.room) }
+    ensures grows { pool.old.room ≤ pool.new.room }
     ensures stays { pool.new ≡ record pool.old { room = pool.new.room } }
 {
     match u32::try_from(n) {
@@ -63,7 +66,7 @@ fn reserve(pool: &mut DescPool, n: usize) -> Result<(), Memory>
 }
 
 /// Which load is asked for.
-#[derive(Debug, Drop)]
+#[derive(Drop)]
 pub struct Request<'a> {
     /// The name of the module.
     pub root: &'a Name,
@@ -72,8 +75,8 @@ pub struct Request<'a> {
 }
 
 /// Plans a load: links the module that is asked for and all that it needs, lays it out, and makes the bytes of each new
-/// segment. Nothing is loaded: the ranges and the descriptors stay, with room for what the plan adds, and so do the tables
-/// of live modules.
+/// segment. Nothing is loaded: the ranges and the descriptors stay, with room for what the plan adds and never with less
+/// than before, and so do the tables of live modules.
 pub fn plan_group<S: Store>(
     standing: &Standing,
     ranges: &mut Ranges,
@@ -83,13 +86,15 @@ pub fn plan_group<S: Store>(
     request: &Request,
 ) -> Result<GroupPlan, LoadErr>
     requires standing { IsPlannable standing.now ranges.old tables.old pool.old }
-    ensures plan { IfOk result (IsPlanOver standing.now ranges.old pool.old
+    ensures plan { IfOk result (IsPlan (loaded_by standing.now ranges.old pool.old)
         (S.files store.old) request.now.root.now request.now.global) }
     ensures taken { IfOk result (λ p. All (λ j. IsTaken j.object) p.joining) }
     ensures ranges_room { IfOk result (λ p. length p.items ≤ ranges.new.room) }
     ensures pool_room { IfOk result (λ p. length p.adopted ≤ pool.new.room) }
-    ensures error { IfErr result (IsErrorOver standing.now ranges.old pool.old
-        (S.files store.old) request.now.root.now (S.faults store.old) (S.faults store.new)) }
+    ensures error { IfErr result (Explains (IsRefused (loaded_by standing.now ranges.old pool.old)
+        (S.files store.old) request.now.root.now) (S.faults store.old) (S.faults store.new)) }
+    ensures ranges_grow { ranges.old.room ≤ ranges.new.room }
+    ensures pool_grows { pool.old.room ≤ pool.new.room }
     ensures ranges { ranges.new ≡ record ranges.old { room = ranges.new.room } }
     ensures pool { pool.new ≡ record pool.old { room = pool.new.room } }
     ensures tables { HasTables standing.now.process.now tables.new }

@@ -4,7 +4,7 @@ use fd_base::{Numbers, Seq};
 use load_model::Joining;
 
 /// What a load adds to a process.
-#[derive(Debug, Drop)]
+#[derive(Drop)]
 pub struct Walk {
     /// The modules that it adds, in the order of the walk.
     pub joining: Seq<Joining>,

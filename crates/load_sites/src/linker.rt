@@ -11,7 +11,7 @@ use load_model::{Joining, SymbolicProcess};
 use symbol_scope::Tables;
 
 /// Live modules and those that a load adds, and the tables in which names are looked up.
-#[derive(Clone, Copy, Debug, Drop)]
+#[derive(Clone, Copy, Drop)]
 pub struct Linker<'a> {
     /// The live modules.
     pub process: &'a SymbolicProcess,

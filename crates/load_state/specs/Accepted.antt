@@ -26,7 +26,7 @@ use Rattle.load_model.specs.Walk.{IsWalk, number_among}
 use Rattle.load_image.specs.Items.{items_of, load_map_of}
 use Rattle.load_image.specs.Places.{placed_pairs_of}
 use Rattle.load_state.specs.declared.plan.GroupPlan.{GroupPlan}
-use Rattle.load_state.specs.Loaded.{Loaded, pool_of}
+use Rattle.load_state.specs.Loaded.{LoadedModules, pool_of}
 use Rattle.load_map.specs.Maps.{map_at}
 
 -- the segments of new modules as items, in order
@@ -49,24 +49,24 @@ pub record IsScoped (p : SymbolicProcess) (files : Option Files) (root : List �
   pub walk : IsWalk p files root joining names
   pub scope' : scope ≡ scope_with p (closure_of p joining names)
 
-abbrev pub linkage_for : Loaded → List Joining → List ℕ → Linkage
+abbrev pub linkage_for : LoadedModules → List Joining → List ℕ → Linkage
 linkage_for l joining scope = linkage_with l.process joining scope
 
 -- every site of the new modules can be filled
-abbrev pub CanBeFilled : Loaded → List Joining → List ℕ → Type 0
+abbrev pub CanBeFilled : LoadedModules → List Joining → List ℕ → Type 0
 CanBeFilled l joining scope = first_refusal (linkage_for l joining scope) (members_of joining) ≡ None
 
 -- the functions that need a slot
-abbrev pub wanted_by : Loaded → List Joining → List ℕ → List Func
+abbrev pub wanted_by : LoadedModules → List Joining → List ℕ → List Func
 wanted_by l joining scope = wanted (linkage_for l joining scope) (get l.addrs) (members_of joining)
 
 -- the new modules' own descriptors, each with its placed address
-abbrev pub adopted_by : Loaded → List Joining → List ℕ → List (List MapEntry) → List (Func × ℕ)
+abbrev pub adopted_by : LoadedModules → List Joining → List ℕ → List (List MapEntry) → List (Func × ℕ)
 adopted_by l joining scope maps =
     placed_pairs_of maps (privates (linkage_for l joining scope) (members_of joining))
 
 -- the slots that functions get
-abbrev pub given_by : Loaded → List Joining → List ℕ → List (Func × ℕ)
+abbrev pub given_by : LoadedModules → List Joining → List ℕ → List (Func × ℕ)
 given_by l joining scope = zip (wanted_by l joining scope) (free_slots (pool_of l.plan l.addrs))
 
 -- the link address of a module's GOT, new or live
@@ -86,7 +86,7 @@ abbrev pub AreFinished : Linkage → Placing → List Joining → List (List Map
 AreFinished l placing joining maps parts = AllZip (λ j part. IsImage l placing j.number j.object (map_at maps j.number) part) joining parts
 
 -- the load that a plan describes
-pub record IsPlan (l : Loaded) (files : Option Files) (root : List ℕ) (asked : Bool) (plan : GroupPlan) : Type 0 where
+pub record IsPlan (l : LoadedModules) (files : Option Files) (root : List ℕ) (asked : Bool) (plan : GroupPlan) : Type 0 where
   pub scoped : IsScoped l.process files root plan.joining plan.scope
   pub root' : number_among l.process plan.joining root ≡ Some plan.root
   pub global' : plan.global ≡ global_after l.process asked plan.scope

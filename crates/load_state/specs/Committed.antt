@@ -22,9 +22,9 @@ use Rattle.load_map.specs.Maps.{map_at}
 -- each byte of a new module is that of its image
 abbrev pub HasNewImages : Loaded → List Joining → Type 0
 HasNewImages l joining =
-    (j : Joining) (k : ℕ) (e : MapEntry) → Contains joining j → slice_get (map_at l.maps j.number) k ≡ Some e
+    (j : Joining) (k : ℕ) (e : MapEntry) → Contains joining j → slice_get (map_at l.modules.maps j.number) k ≡ Some e
     → (i : ℕ) → i < e.memsz
-    → byte_at l.memory (e.addr + i) ≡ image_of (linkage_of l.process) (placing_of l.process l.maps l.addrs) j.number j.object (e.vaddr + i)
+    → byte_at l.memory (e.addr + i) ≡ image_of (linkage_of l.modules.process) (placing_of l.modules.process l.modules.maps l.modules.addrs) j.number j.object (e.vaddr + i)
 
 -- an address at which the load writes nothing: in no new segment, no new load map and no new descriptor
 pub record IsElsewhere (plan : GroupPlan) (a : ℕ) : Type 0 where
@@ -39,14 +39,14 @@ pub record IsSameAt (old new : GuestMemory) (a : ℕ) : Type 0 where
 
 -- The new modules are live, placed where the plan says, and all that was there stays.
 pub record IsCommitted (old : Loaded) (plan : GroupPlan) (new : Loaded) : Type 0 where
-  pub plan' : new.plan ≡ old.plan
-  pub process' : new.process ≡ process_after old.process plan.joining plan.scope plan.global
-  pub maps' : new.maps ≡ plan.maps
-  pub held' : new.held ≡ all_held plan.items plan.addrs old.held
-  pub addrs' : (f : Func) → get new.addrs f ≡ descriptors_after (get old.addrs) plan.adopted plan.given f
-  pub laid_out : IsLaidOut new.plan (in_memory new.process new.maps) new.memory
+  pub plan' : new.modules.plan ≡ old.modules.plan
+  pub process' : new.modules.process ≡ process_after old.modules.process plan.joining plan.scope plan.global
+  pub maps' : new.modules.maps ≡ plan.maps
+  pub held' : new.modules.held ≡ all_held plan.items plan.addrs old.modules.held
+  pub addrs' : (f : Func) → get new.modules.addrs f ≡ descriptors_after (get old.modules.addrs) plan.adopted plan.given f
+  pub laid_out : IsLaidOut new.modules.plan (in_memory new.modules.process new.modules.maps) new.memory
   pub images : HasNewImages new plan.joining
-  pub load_maps : (j : Joining) → Contains plan.joining j → HasLoadMap new.memory j.number (map_at new.maps j.number)
+  pub load_maps : (j : Joining) → Contains plan.joining j → HasLoadMap new.memory j.number (map_at new.modules.maps j.number)
   pub slots : (f : Func) (a : ℕ) → Contains plan.given (f, a)
-      → HasPair new.memory a (place_of (placing_of new.process new.maps new.addrs) f) (got_of (placing_of new.process new.maps new.addrs) f.module)
+      → HasPair new.memory a (place_of (placing_of new.modules.process new.modules.maps new.modules.addrs) f) (got_of (placing_of new.modules.process new.modules.maps new.modules.addrs) f.module)
   pub stays : (a : ℕ) → IsElsewhere plan a → IsSameAt old.memory new.memory a

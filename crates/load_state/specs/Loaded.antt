@@ -1,4 +1,4 @@
--- What a loader holds: one process, where it is placed, and its memory.
+-- What a loader holds: the modules of one process, where they are placed, and their memory.
 use Rattle.std.specs.Prelude.{◌≡◌, ℕ, List, Option, option_map}
 use Rattle.std.specs.FinMap.{get}
 use Rattle.load_map.specs.declared.entry.MapEntry.{MapEntry}
@@ -15,8 +15,8 @@ use Rattle.load_map.specs.Translation.{placed}
 use Rattle.load_model.specs.Layout.{InMemory}
 use Rattle.load_model.specs.Process.{object_at}
 
-pub record Loaded : Type 0 where
-  -- never changes
+-- what is placed, in a memory plan that never changes
+pub record LoadedModules : Type 0 where
   pub plan : MemPlan
   -- without addresses
   pub process : SymbolicProcess
@@ -26,6 +26,9 @@ pub record Loaded : Type 0 where
   pub held : List Held
   -- the address of each function's descriptor
   pub addrs : AddrMap
+
+pub record Loaded : Type 0 where
+  pub modules : LoadedModules
   pub memory : GuestMemory
 
 -- a loader: what it holds, and for how many more ranges and adopted descriptors there is room

@@ -12,7 +12,7 @@ use Rattle.load_model.specs.Plan.{low_of, high_of}
 use Rattle.load_model.specs.Sites.{first_refusal}
 use Rattle.load_model.specs.Walk.{IsWalkRefused}
 use Rattle.load_state.specs.Accepted.{IsScoped, CanBeFilled, wanted_by, all_items}
-use Rattle.load_state.specs.Loaded.{Loaded, pool_of}
+use Rattle.load_state.specs.Loaded.{LoadedModules, pool_of}
 
 -- a site of a new module can't be filled
 pub record HasUnfilledSite (p : SymbolicProcess) (files : Option Files) (root : List ℕ) (r : LoadRefusal) : Type 0 where
@@ -22,7 +22,7 @@ pub record HasUnfilledSite (p : SymbolicProcess) (files : Option Files) (root : 
   pub first : first_refusal (linkage_with p joining scope) (members_of joining) ≡ Some r
 
 -- more functions need a slot than are free, which are n
-pub record LacksSlots (l : Loaded) (files : Option Files) (root : List ℕ) (n : ℕ) : Type 0 where
+pub record LacksSlots (l : LoadedModules) (files : Option Files) (root : List ℕ) (n : ℕ) : Type 0 where
   pub joining : List Joining
   pub scope : List ℕ
   pub scoped : IsScoped l.process files root joining scope
@@ -31,7 +31,7 @@ pub record LacksSlots (l : Loaded) (files : Option Files) (root : List ℕ) (n :
   pub more : n < length (wanted_by l joining scope)
 
 -- segment i of the new ones has no address
-pub record HasNoPlace (l : Loaded) (files : Option Files) (root : List ℕ) (i : ℕ) : Type 0 where
+pub record HasNoPlace (l : LoadedModules) (files : Option Files) (root : List ℕ) (i : ℕ) : Type 0 where
   pub joining : List Joining
   pub scope : List ℕ
   pub scoped : IsScoped l.process files root joining scope
@@ -39,7 +39,7 @@ pub record HasNoPlace (l : Loaded) (files : Option Files) (root : List ℕ) (i :
   pub enough : length (wanted_by l joining scope) ≤ length (free_slots (pool_of l.plan l.addrs))
   pub fails : FailsAt (low_of l.plan) (high_of l.plan) l.held (all_items l.plan.places joining) i
 
-abbrev pub IsRefused : Loaded → Option Files → List ℕ → LoadRefusal → Type 0
+abbrev pub IsRefused : LoadedModules → Option Files → List ℕ → LoadRefusal → Type 0
 IsRefused l files root TooManyModules = IsWalkRefused l.process files root TooManyModules
 IsRefused l files root (TooLong n) = IsWalkRefused l.process files root (TooLong n)
 IsRefused l files root (NoFile n) = IsWalkRefused l.process files root (NoFile n)

@@ -12,7 +12,7 @@ pub type Parts = Seq<Seq<Bytes>>;
 pub type Descriptors = Seq<(Func, u32)>;
 
 /// What a load does. `Loader::plan_group` makes it, and `Loader::commit` does it.
-#[derive(Debug, Drop)]
+#[derive(Drop)]
 pub struct GroupPlan {
     /// The number of the module that is asked for.
     pub root: u32,

@@ -56,8 +56,8 @@ same_free p q base slots addrs =
     let free_of : ℕ → ℕ → AddrMap → List ℕ = λ b n m. filter (λ a. not (has_addr m a)) (map (slot_addr b) (range_with_len 0 n)) in
     ap (λ b. free_of b p.slots p.addrs) base ∙ ap (λ n. free_of q.base n p.addrs) slots ∙ ap (free_of q.base q.slots) addrs
 
-module _ (l : Loaded) (files : Option Files) (root : List ℕ) (asked : Bool) (plan : GroupPlan) (c : IsConsistent l) (planned : IsPlan l files root asked plan) (taken : All (λ j. IsTaken j.object) plan.joining) where
-  module _ (pool : Pool) (base : pool.base ≡ DESCRIPTORS) (slots : pool.slots ≡ l.plan.descriptors) (addrs : pool.addrs ≡ l.addrs) where
+module _ (l : Loaded) (files : Option Files) (root : List ℕ) (asked : Bool) (plan : GroupPlan) (c : IsConsistent l) (planned : IsPlan l.modules files root asked plan) (taken : All (λ j. IsTaken j.object) plan.joining) where
+  module _ (pool : Pool) (base : pool.base ≡ DESCRIPTORS) (slots : pool.slots ≡ l.modules.plan.descriptors) (addrs : pool.addrs ≡ l.modules.addrs) where
     pub can_adopt : CanBeAdopted plan.adopted pool
     can_adopt = record {
       unused = λ f g a there is. (adoptable l files root asked plan c planned taken).unused f g a there (ap (λ m. get m g) (sym addrs) ∙ is);
@@ -67,20 +67,20 @@ module _ (l : Loaded) (files : Option Files) (root : List ℕ) (asked : Bool) (p
 
     pub next_given : (new : Pool) → AreEntered plan.adopted pool new → free_slots new ≡ free_slots pool → AreNext plan.given new
     next_given new entered same = subst (λ given. AreNext given new) (sym planned.given') (record {
-      slots' = seconds (wanted_by l plan.joining plan.scope) (free_slots (pool_of l.plan l.addrs)) planned.enough ∙ ap (take (length (given_by l plan.joining plan.scope))) (sym free_same);
-      fresh = each_first (wanted_by l plan.joining plan.scope) (free_slots (pool_of l.plan l.addrs)) (λ f. get new.addrs f ≡ None)
-          (All-weaker (λ f. lacks (linkage_for l plan.joining plan.scope) (get l.addrs) (members_of plan.joining) f ≡ true) (λ f. get new.addrs f ≡ None) none
-          (wanted_by l plan.joining plan.scope) (all_lack (linkage_for l plan.joining plan.scope) (get l.addrs) (members_of plan.joining)));
-      once = pairs_first (wanted_by l plan.joining plan.scope) (free_slots (pool_of l.plan l.addrs)) (λ f g. f ≢ g) (wanted_once (linkage_for l plan.joining plan.scope) (get l.addrs) (members_of plan.joining));
+      slots' = seconds (wanted_by l.modules plan.joining plan.scope) (free_slots (pool_of l.modules.plan l.modules.addrs)) planned.enough ∙ ap (take (length (given_by l.modules plan.joining plan.scope))) (sym free_same);
+      fresh = each_first (wanted_by l.modules plan.joining plan.scope) (free_slots (pool_of l.modules.plan l.modules.addrs)) (λ f. get new.addrs f ≡ None)
+          (All-weaker (λ f. lacks (linkage_for l.modules plan.joining plan.scope) (get l.modules.addrs) (members_of plan.joining) f ≡ true) (λ f. get new.addrs f ≡ None) none
+          (wanted_by l.modules plan.joining plan.scope) (all_lack (linkage_for l.modules plan.joining plan.scope) (get l.modules.addrs) (members_of plan.joining)));
+      once = pairs_first (wanted_by l.modules plan.joining plan.scope) (free_slots (pool_of l.modules.plan l.modules.addrs)) (λ f g. f ≢ g) (wanted_once (linkage_for l.modules plan.joining plan.scope) (get l.modules.addrs) (members_of plan.joining));
     })
       where
-        free_same : free_slots new ≡ free_slots (pool_of l.plan l.addrs)
-        free_same = same ∙ same_free pool (pool_of l.plan l.addrs) base slots addrs
+        free_same : free_slots new ≡ free_slots (pool_of l.modules.plan l.modules.addrs)
+        free_same = same ∙ same_free pool (pool_of l.modules.plan l.modules.addrs) base slots addrs
 
-        none : (f : Func) → lacks (linkage_for l plan.joining plan.scope) (get l.addrs) (members_of plan.joining) f ≡ true → get new.addrs f ≡ None
+        none : (f : Func) → lacks (linkage_for l.modules plan.joining plan.scope) (get l.modules.addrs) (members_of plan.joining) f ≡ true → get new.addrs f ≡ None
         none f pass =
-            let parts = neither (is_some (get l.addrs f)) (is_listed (privates (linkage_for l plan.joining plan.scope) (members_of plan.joining)) f) pass in
+            let parts = neither (is_some (get l.modules.addrs f)) (is_listed (privates (linkage_for l.modules plan.joining plan.scope) (members_of plan.joining)) f) pass in
             let listed : listed_addr plan.adopted f ≡ None =
             ap (λ es. listed_addr es f) planned.adopted'
-            ∙ not_listed (privates (linkage_for l plan.joining plan.scope) (members_of plan.joining)) (λ e. placed_at (map_at plan.maps e.0.module) e.1) f parts.1 in
-            entered.addrs' f ∙ ap (λ m. option_or (get m f) (listed_addr plan.adopted f)) addrs ∙ ap (λ o. option_or o (listed_addr plan.adopted f)) (none_of (get l.addrs f) parts.0) ∙ listed
+            ∙ not_listed (privates (linkage_for l.modules plan.joining plan.scope) (members_of plan.joining)) (λ e. placed_at (map_at plan.maps e.0.module) e.1) f parts.1 in
+            entered.addrs' f ∙ ap (λ m. option_or (get m f) (listed_addr plan.adopted f)) addrs ∙ ap (λ o. option_or o (listed_addr plan.adopted f)) (none_of (get l.modules.addrs f) parts.0) ∙ listed

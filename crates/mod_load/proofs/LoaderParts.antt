@@ -14,10 +14,10 @@ pub consistent_of : {inside seen : LoaderState} → inside ≡ seen → IsConsis
 consistent_of is consistent = subst (λ (s : LoaderState). IsConsistent s.loaded) (sym is) consistent
 
 -- each placed segment ends below 2^32
-pub ends_of : {inside seen : LoaderState} → inside ≡ seen → IsConsistent seen.loaded → length inside.loaded.memory.bytes < 2 ^ 32 → All (All EndsBelow) inside.loaded.maps
+pub ends_of : {inside seen : LoaderState} → inside ≡ seen → IsConsistent seen.loaded → length inside.loaded.memory.bytes < 2 ^ 32 → All (All EndsBelow) inside.loaded.modules.maps
 ends_of {inside = inside} is consistent small =
     let c = consistent_of is consistent in
-    maps_end_lem.old inside.loaded c.modules' (subst (λ (n : ℕ). n < 2 ^ 32) c.laid_out.size small)
+    maps_end_lem.old inside.loaded.modules c.modules' (subst (λ (n : ℕ). n < 2 ^ 32) c.laid_out.size small)
 
 -- a plan of a consistent loader
 pub record IsPlanOf (l : Loaded) (plan : GroupPlan) : Type 0 where
@@ -25,7 +25,7 @@ pub record IsPlanOf (l : Loaded) (plan : GroupPlan) : Type 0 where
   pub root' : List ℕ
   pub asked : Bool
   pub consistent : IsConsistent l
-  pub planned : IsPlan l files root' asked plan
+  pub planned : IsPlan l.modules files root' asked plan
   pub taken : All (λ j. IsTaken j.object) plan.joining
 
 pub plan_of : {inside seen : LoaderState} (plan : GroupPlan) → inside ≡ seen → IsConsistent seen.loaded → MayCommit seen plan → IsPlanOf inside.loaded plan
@@ -34,6 +34,6 @@ plan_of plan is consistent ready = record {
   root' = ready.root';
   asked = ready.asked;
   consistent = consistent_of is consistent;
-  planned = subst (λ (s : LoaderState). IsPlan s.loaded ready.files ready.root' ready.asked plan) (sym is) ready.planned;
+  planned = subst (λ (s : LoaderState). IsPlan s.loaded.modules ready.files ready.root' ready.asked plan) (sym is) ready.planned;
   taken = ready.taken;
 }

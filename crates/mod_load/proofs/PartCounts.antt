@@ -23,7 +23,7 @@ use Rattle.load_process.proofs.NumberedPlaces.{at_place, at_place-set_other}
 use Rattle.load_state.specs.declared.plan.GroupPlan.{GroupPlan}
 use Rattle.load_state.specs.Accepted.{IsPlan}
 use Rattle.load_state.specs.Consistent.{IsConsistent}
-use Rattle.load_state.specs.Loaded.{Loaded}
+use Rattle.load_state.specs.Loaded.{Loaded, LoadedModules}
 use Rattle.load_process.specs.parts.TakenObjects.{IsTaken}
 use Rattle.mod_load.specs.parts.EnteredAddresses.{AreEntered}
 use Rattle.mod_load.specs.parts.Fit.{IsFit}
@@ -55,38 +55,31 @@ counted modules group (j ∷ joining) own below free =
     let rest = counted new group joining own.1 below' free' in
     omega (arith, step, rest)
 
-module _ (l : Loaded) (files : Option Files) (root : List ℕ) (asked : Bool) (plan : GroupPlan) (c : IsConsistent l) (planned : IsPlan l files root asked plan) (taken : All (λ j. IsTaken j.object) plan.joining) where
+module _ (l : Loaded) (files : Option Files) (root : List ℕ) (asked : Bool) (plan : GroupPlan) (c : IsConsistent l) (planned : IsPlan l.modules files root asked plan) (taken : All (λ j. IsTaken j.object) plan.joining) where
   pub owned : All IsOwned plan.items
-  owned = subst (All IsOwned) (sym planned.items') (all_owned l.plan.places plan.joining (free_numbers_of l files root asked plan planned).small)
+  owned = subst (All IsOwned) (sym planned.items') (all_owned l.modules.plan.places plan.joining (free_numbers_of l.modules files root asked plan planned).small)
 
   few_items : length plan.items ≤ 8 * length plan.joining
-  few_items = subst (λ (items : List Item). length items ≤ 8 * length plan.joining) (sym planned.items') (all_few l.plan.places plan.joining (sound_of plan.joining taken))
+  few_items = subst (λ (items : List Item). length items ≤ 8 * length plan.joining) (sym planned.items') (all_few l.modules.plan.places plan.joining (sound_of plan.joining taken))
 
-  few_after : HasFewSymbols l.process → HasFewSymbols (process_after l.process plan.joining plan.scope plan.global)
+  few_after : HasFewSymbols l.modules.process → HasFewSymbols (process_after l.modules.process plan.joining plan.scope plan.global)
   few_after few m o is =
-      let new : Loaded = record {
-        plan = l.plan;
-        process = process_after l.process plan.joining plan.scope plan.global;
-        maps = l.maps;
-        held = l.held;
-        addrs = l.addrs;
-        memory = l.memory;
-      } in
-      elim ((extended l new files root asked plan c.valid planned refl).only m o is) [
+      let new : LoadedModules = record l.modules { process = process_after l.modules.process plan.joining plan.scope plan.global } in
+      elim ((extended l.modules new files root asked plan c.valid planned refl).only m o is) [
         | inl old ↦ few m o old
         | inr joins ↦ subst (λ (x : Object). length x.symbols ≤ 65536) joins.3 (All-contains (λ (j : Joining). IsTaken j.object) plan.joining joins.0 taken joins.1).few
       ]
 
-  live_after : count_by is_some (process_after l.process plan.joining plan.scope plan.global).modules ≡ count_by is_some l.process.modules + length plan.joining
+  live_after : count_by is_some (process_after l.modules.process plan.joining plan.scope plan.global).modules ≡ count_by is_some l.modules.process.modules + length plan.joining
   live_after =
-      counted l.process.modules (group_of plan.joining) plan.joining (own_numbers l files root asked plan planned)
-      (subst (λ (n : ℕ). All (λ (j : Joining). j.number < n) plan.joining) (sym c.valid.modules') (free_numbers_of l files root asked plan planned).small)
-      (free_numbers_of l files root asked plan planned).free
+      counted l.modules.process.modules (group_of plan.joining) plan.joining (own_numbers l.modules files root asked plan planned)
+      (subst (λ (n : ℕ). All (λ (j : Joining). j.number < n) plan.joining) (sym c.valid.modules') (free_numbers_of l.modules files root asked plan planned).small)
+      (free_numbers_of l.modules files root asked plan planned).free
 
-  pub fit_after : (space after : Space) (pool adopted given : Pool) (tables : Option Slots) (held : List Held) (room : ℕ) → IsFit l.plan l.process space pool tables
+  pub fit_after : (space after : Space) (pool adopted given : Pool) (tables : Option Slots) (held : List Held) (room : ℕ) → IsFit l.modules.plan l.modules.process space pool tables
       → after ≡ record { low = space.low; high = space.high; held = held; room = room } → length after.held ≡ length space.held + length plan.items
       → AreEntered plan.adopted pool adopted → AreEntered plan.given adopted given
-      → IsFit l.plan (process_after l.process plan.joining plan.scope plan.global) after given None
+      → IsFit l.modules.plan (process_after l.modules.process plan.joining plan.scope plan.global) after given None
   fit_after space after pool adopted given tables held room fit is longer first last = record {
     low' = ap (λ s. s.low) is ∙ fit.low';
     high' = ap (λ s. s.high) is ∙ fit.high';

@@ -101,18 +101,18 @@ writable_at o r kind place =
     let size : (site_of_rel r).size ≡ 8 = ap (λ k. (site_of_rel (of_kind k)).size) kind in
     subst (λ (n : ℕ). is_writable_in o.segments r.site n ≡ true) size place.writable
 
-module _ (l : Loaded) (c : IsConsistent l) (small : length l.memory.bytes < 2 ^ 32) (m : ℕ) (o : Object) (live : object_at l.process m ≡ Some o) (k : ℕ) (r : Rel) (at : slice_get o.jmprels k ≡ Some r) where
+module _ (l : Loaded) (c : IsConsistent l) (small : length l.memory.bytes < 2 ^ 32) (m : ℕ) (o : Object) (live : object_at l.modules.process m ≡ Some o) (k : ℕ) (r : Rel) (at : slice_get o.jmprels k ≡ Some r) where
   abbrev es : List MapEntry
-  es = map_at l.maps m
+  es = map_at l.modules.maps m
 
   abbrev P : Placing
-  P = placing_of l.process l.maps l.addrs
+  P = placing_of l.modules.process l.modules.maps l.modules.addrs
 
-  stands : IsStanding l m o
+  stands : IsStanding l.modules m o
   stands = c.modules'.standing m o live
 
   same : AllZip IsPlacedBy o.segments es
-  same = zip_gives (IsEntryOf l.plan) IsPlacedBy (λ s e is. record { vaddr = is.vaddr'; memsz = is.memsz' }) o.segments es stands.mapped
+  same = zip_gives (IsEntryOf l.modules.plan) IsPlacedBy (λ s e is. record { vaddr = is.vaddr'; memsz = is.memsz' }) o.segments es stands.mapped
 
   listed : Contains (site_relocations o) r
   listed = Contains-append_left (o.rels ++ o.jmprels) _ r (Contains-append_right o.rels o.jmprels r (contains_at o.jmprels k r at))
@@ -124,18 +124,18 @@ module _ (l : Loaded) (c : IsConsistent l) (small : length l.memory.bytes < 2 ^ 
   lies = lies_in o.segments es r.site 8 same (writable_at o r kind (all_at (λ (q : Rel). IsInPlace o.segments (site_of_rel q)) o.jmprels k r (slots_in_place o stands.sound) at))
 
   abbrev f : Option Func
-  f = function_or_none (function_at (linkage_of l.process) m o r)
+  f = function_or_none (function_at (linkage_of l.modules.process) m o r)
 
-  value_is : site_value (linkage_of l.process) m o r ≡ Ok (Pair f)
+  value_is : site_value (linkage_of l.modules.process) m o r ≡ Ok (Pair f)
   value_is =
-      let written' = pair_value (linkage_of l.process) m o r kind in
-      let none : result_err (site_value (linkage_of l.process) m o r) ≡ None = no_refusal (linkage_of l.process) m o r _ stands.filled listed refl in
-      written' ∙ ap (written Pair) (function_given (function_at (linkage_of l.process) m o r) (ap result_err (sym written') ∙ none))
+      let written' = pair_value (linkage_of l.modules.process) m o r kind in
+      let none : result_err (site_value (linkage_of l.modules.process) m o r) ≡ None = no_refusal (linkage_of l.modules.process) m o r _ stands.filled listed refl in
+      written' ∙ ap (written Pair) (function_given (function_at (linkage_of l.modules.process) m o r) (ap result_err (sym written') ∙ none))
 
-  words : All (HasWord (image_of (linkage_of l.process) P m o)) (pair_at r.site (option_map_or (place_of P) f 0) (option_map_or (λ g. got_of P g.module) f 0))
+  words : All (HasWord (image_of (linkage_of l.modules.process) P m o)) (pair_at r.site (option_map_or (place_of P) f 0) (option_map_or (λ g. got_of P g.module) f 0))
   words =
-      subst (All (HasWord (image_of (linkage_of l.process) P m o))) (pair_of P r.site f)
-      (site_stands (linkage_of l.process) P m o r (Pair f) stands.sound listed value_is)
+      subst (All (HasWord (image_of (linkage_of l.modules.process) P m o))) (pair_of P r.site f)
+      (site_stands (linkage_of l.modules.process) P m o r (Pair f) stands.sound listed value_is)
 
   within : (lies.e.addr ≤ placed es r.site) × (placed es r.site + 8 ≤ lies.e.addr + lies.e.memsz)
   within = inside o.segments es same stands.sound.apart r.site 8 (omega arith) lies
@@ -147,7 +147,7 @@ module _ (l : Loaded) (c : IsConsistent l) (small : length l.memory.bytes < 2 ^ 
       (to_filter (λ (q : Rel). q.kind == R_ARM_FUNCDESC_VALUE) (site_relocations o) r ((Decides-eqb r.kind R_ARM_FUNCDESC_VALUE).1 kind) listed))
 
   -- each byte of the slot is that of the image
-  byte : (i : ℕ) → i < 8 → byte_at l.memory (placed es r.site + i) ≡ image_of (linkage_of l.process) P m o (r.site + i)
+  byte : (i : ℕ) → i < 8 → byte_at l.memory (placed es r.site + i) ≡ image_of (linkage_of l.modules.process) P m o (r.site + i)
   byte i lt =
       let from : lies.s.vaddr ≤ r.site = lies.from in
       let vaddr : lies.e.vaddr ≡ lies.s.vaddr = lies.same.vaddr in
@@ -160,16 +160,16 @@ module _ (l : Loaded) (c : IsConsistent l) (small : length l.memory.bytes < 2 ^ 
       let watched = c.laid_out.watched m (placed es r.site) 8 (placed es r.site + i) (record { object' = o; live = live; listed = range }) (is_inside (placed es r.site) 8 (placed es r.site + i) (omega arith) (omega arith)) in
       sym (ap (byte_at l.memory) addr)
       ∙ c.images.bytes m o lies.k lies.e live lies.entry (r.site - lies.e.vaddr + i) (omega arith) (subst (λ (a : ℕ). is_watched l.memory a ≡ true) (sym addr) watched)
-      ∙ ap (image_of (linkage_of l.process) P m o) linked
+      ∙ ap (image_of (linkage_of l.modules.process) P m o) linked
 
-  maps_small : (n : ℕ) (v : ℕ) → placed (map_at l.maps n) v < 2 ^ 32
-  maps_small n v = placed_small (map_at l.maps n) v (map_ends l.maps (maps_end_lem.old l c.modules' (subst (λ (n : ℕ). n < 2 ^ 32) c.laid_out.size small)) n)
+  maps_small : (n : ℕ) (v : ℕ) → placed (map_at l.modules.maps n) v < 2 ^ 32
+  maps_small n v = placed_small (map_at l.modules.maps n) v (map_ends l.modules.maps (maps_end_lem.old l.modules c.modules' (subst (λ (n : ℕ). n < 2 ^ 32) c.laid_out.size small)) n)
 
   code_below : (g : Option Func) → option_map_or (place_of P) g 0 < 2 ^ 32
   code_below None = omega arith
   code_below (Some g) = maps_small g.module g.value
 
-  got_at : (n : ℕ) (g : Option ℕ) → option_map_or (placed (map_at l.maps n)) g 0 < 2 ^ 32
+  got_at : (n : ℕ) (g : Option ℕ) → option_map_or (placed (map_at l.modules.maps n)) g 0 < 2 ^ 32
   got_at n None = omega arith
   got_at n (Some v) = maps_small n v
 
@@ -177,22 +177,22 @@ module _ (l : Loaded) (c : IsConsistent l) (small : length l.memory.bytes < 2 ^ 
   got_below None = omega arith
   got_below (Some g) = got_at g.module (P.gots g.module)
 
-  slot_filled : IsFilled l.memory (slot_pair_at (linkage_of l.process) (placing_of l.process l.maps empty) m o r)
+  slot_filled : IsFilled l.memory (slot_pair_at (linkage_of l.modules.process) (placing_of l.modules.process l.modules.maps empty) m o r)
   slot_filled =
       let first : LinkWord = record { addr = r.site; value = option_map_or (place_of P) f 0 } in
       let second : LinkWord = record { addr = r.site + 4; value = option_map_or (λ g. got_of P g.module) f 0 } in
-      let memory_end : length l.memory.bytes ≡ l.plan.memory = c.laid_out.size in
-      let entry : IsEntryOf l.plan _ lies.e = (zip_at_right (IsEntryOf l.plan) o.segments es lies.k lies.e stands.mapped lies.entry).2 in
-      let below : lies.e.addr + lies.e.memsz ≤ high_of l.plan = entry.below in
+      let memory_end : length l.memory.bytes ≡ l.modules.plan.memory = c.laid_out.size in
+      let entry : IsEntryOf l.modules.plan _ lies.e = (zip_at_right (IsEntryOf l.modules.plan) o.segments es lies.k lies.e stands.mapped lies.entry).2 in
+      let below : lies.e.addr + lies.e.memsz ≤ high_of l.modules.plan = entry.below in
       let high = within.1 in
       record {
         inside = omega arith;
-        code' = λ i lt. byte i (omega arith) ∙ All-head (HasWord (image_of (linkage_of l.process) P m o)) first (second ∷ []) words i lt;
+        code' = λ i lt. byte i (omega arith) ∙ All-head (HasWord (image_of (linkage_of l.modules.process) P m o)) first (second ∷ []) words i lt;
         got' = λ i lt.
             let at' : placed es r.site + 4 + i ≡ placed es r.site + (4 + i) = omega arith in
             let at'' : r.site + (4 + i) ≡ r.site + 4 + i = omega arith in
-            ap (byte_at l.memory) at' ∙ byte (4 + i) (omega arith) ∙ ap (image_of (linkage_of l.process) P m o) at''
-            ∙ All-head (HasWord (image_of (linkage_of l.process) P m o)) second [] (All-tail (HasWord (image_of (linkage_of l.process) P m o)) first (second ∷ []) words) i lt;
+            ap (byte_at l.memory) at' ∙ byte (4 + i) (omega arith) ∙ ap (image_of (linkage_of l.modules.process) P m o) at''
+            ∙ All-head (HasWord (image_of (linkage_of l.modules.process) P m o)) second [] (All-tail (HasWord (image_of (linkage_of l.modules.process) P m o)) first (second ∷ []) words) i lt;
         code_small = code_below f;
         got_small = got_below f;
       }
@@ -208,21 +208,21 @@ pair_told p maps m k o live =
 pub none_told : (p : SymbolicProcess) (maps : List (List MapEntry)) (m k : ℕ) → object_at p m ≡ None → slot_pair_of p maps m k ≡ None
 none_told p maps m k none = ap (λ x. slice_get (option_map_or (λ o. map (slot_pair_at (linkage_of p) (placing_of p maps empty) m o) o.jmprels) x []) k) none
 
-pub has_slots : (l : Loaded) → IsConsistent l → length l.memory.bytes < 2 ^ 32 → HasSlots l.process l.maps l.memory
-has_slots l c small m k s is = by (object_at l.process m) refl
+pub has_slots : (l : Loaded) → IsConsistent l → length l.memory.bytes < 2 ^ 32 → HasSlots l.modules.process l.modules.maps l.memory
+has_slots l c small m k s is = by (object_at l.modules.process m) refl
   where
-    at : (o : Object) → object_at l.process m ≡ Some o → (x : Option Rel) → slice_get o.jmprels k ≡ x → IsFilled l.memory s
+    at : (o : Object) → object_at l.modules.process m ≡ Some o → (x : Option Rel) → slice_get o.jmprels k ≡ x → IsFilled l.memory s
     at o live None none =
-        let never : None ≡ Some s = sym (pair_told l.process l.maps m k o live ∙ ap (option_map (slot_pair_at (linkage_of l.process) (placing_of l.process l.maps empty) m o)) none) ∙ is in
+        let never : None ≡ Some s = sym (pair_told l.modules.process l.modules.maps m k o live ∙ ap (option_map (slot_pair_at (linkage_of l.modules.process) (placing_of l.modules.process l.modules.maps empty) m o)) none) ∙ is in
         absurd cc
     at o live (Some r) there =
-        let both : Some (slot_pair_at (linkage_of l.process) (placing_of l.process l.maps empty) m o r) ≡ Some s =
-        sym (pair_told l.process l.maps m k o live ∙ ap (option_map (slot_pair_at (linkage_of l.process) (placing_of l.process l.maps empty) m o)) there) ∙ is in
-        let same_pair : slot_pair_at (linkage_of l.process) (placing_of l.process l.maps empty) m o r ≡ s = cc in
+        let both : Some (slot_pair_at (linkage_of l.modules.process) (placing_of l.modules.process l.modules.maps empty) m o r) ≡ Some s =
+        sym (pair_told l.modules.process l.modules.maps m k o live ∙ ap (option_map (slot_pair_at (linkage_of l.modules.process) (placing_of l.modules.process l.modules.maps empty) m o)) there) ∙ is in
+        let same_pair : slot_pair_at (linkage_of l.modules.process) (placing_of l.modules.process l.modules.maps empty) m o r ≡ s = cc in
         subst (IsFilled l.memory) same_pair (slot_filled l c small m o live k r there)
 
-    by : (x : Option Object) → object_at l.process m ≡ x → IsFilled l.memory s
-    by None none = let never : None ≡ Some s = sym (none_told l.process l.maps m k none) ∙ is in absurd cc
+    by : (x : Option Object) → object_at l.modules.process m ≡ x → IsFilled l.memory s
+    by None none = let never : None ≡ Some s = sym (none_told l.modules.process l.modules.maps m k none) ∙ is in absurd cc
     by (Some o) live = at o live (slice_get o.jmprels k) refl
 
 -- ---- one slot

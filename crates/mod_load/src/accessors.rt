@@ -31,28 +31,28 @@ impl Loader {
 
     /// What is true of each loader, for a caller's proof. It does nothing.
     pub fn whole(&self)
-        ensures { self.now.loaded.plan.memory < 2 ^ 32 }
+        ensures { self.now.loaded.modules.plan.memory < 2 ^ 32 }
     {
         let _memory = self.plan.memory;
     }
 
     /// The live modules, without addresses.
     pub fn process(&self) -> &SymbolicProcess
-        ensures { result.now ≡ self.now.loaded.process }
+        ensures { result.now ≡ self.now.loaded.modules.process }
     {
         &self.process
     }
 
     /// The load map of each module, by number.
     pub fn maps(&self) -> &[MapEntries]
-        ensures { result.now ≡ self.now.loaded.maps }
+        ensures { result.now ≡ self.now.loaded.modules.maps }
     {
         self.maps.as_slice()
     }
 
     /// Whether a module of this number is live.
     pub fn live(&self, m: u32) -> bool
-        ensures { result ≡ is_live self.now.loaded.process m }
+        ensures { result ≡ is_live self.now.loaded.modules.process m }
     {
         self.process.is_live(m)
     }
@@ -60,7 +60,7 @@ impl Loader {
     /// The placed address of the GOT of a live module.
     pub fn got(&self, m: u32) -> Option<u32>
         requires { IsConsistent self.now.loaded }
-        ensures { result ≡ got_at self.now.loaded.process self.now.loaded.maps m }
+        ensures { result ≡ got_at self.now.loaded.modules.process self.now.loaded.modules.maps m }
     {
         self.guest.whole();
         got_at(&self.process, self.maps.as_slice(), m)
@@ -68,14 +68,14 @@ impl Loader {
 
     /// The number of the module that has a placed segment at this address.
     pub fn module_at(&self, addr: u32) -> Option<u32>
-        ensures { result ≡ module_at self.now.loaded.maps addr }
+        ensures { result ≡ module_at self.now.loaded.modules.maps addr }
     {
         first_at(self.maps.as_slice(), addr, MAX_MODULES)
     }
 
     /// Whether a live module has functions that should be called before its program, or after it. They are not called.
     pub fn skipped(&self, m: u32) -> bool
-        ensures { result ≡ is_skipped self.now.loaded.process m }
+        ensures { result ≡ is_skipped self.now.loaded.modules.process m }
     {
         match self.process.object_at(m) {
             Some(object) => object.inits.has_any(),

@@ -45,7 +45,10 @@ impl Model for Loader {
     ghost coded = { Prim.hlevel (codes, addr_map_code) };
 
     ghost view = { λ l. record {
-      loaded = record { plan = l.plan; process = l.process; maps = l.maps; held = l.ranges.held; addrs = l.pool.addrs; memory = l.guest };
+      loaded = record {
+        modules = record { plan = l.plan; process = l.process; maps = l.maps; held = l.ranges.held; addrs = l.pool.addrs };
+        memory = l.guest;
+      };
       range_room = l.ranges.room;
       descriptor_room = l.pool.room;
     } };
@@ -62,6 +65,7 @@ impl Loader {
     ghost use Rattle.load_state.specs.Committed.{IsCommitted};
     ghost use Rattle.load_state.specs.Consistent.{IsConsistent};
     ghost use Rattle.load_state.specs.Loaded.{IsUnchanged};
+    ghost use Rattle.load_state.specs.declared.plan.GroupPlan.{GroupPlan};
     ghost use Rattle.load_state.specs.ProgramLoad.{IsNew};
     ghost use Rattle.load_state.specs.Refused.{IsRefused};
     ghost use Rattle.load_state.specs.Slots.{slot_pair_of};
@@ -90,8 +94,9 @@ impl Loader {
     }
 
     /// Plans the load of the module of this name and of all that it needs. Nothing is loaded before `commit`: the
-    /// process stays, whatever the answer. With `global` the global list is to gain the new modules. With `lazy` slots
-    /// would be bound at their first calls, which is not built yet.
+    /// process stays, whatever the answer, and so each earlier plan that may be committed still may. With `global` the
+    /// global list is to gain the new modules. With `lazy` slots would be bound at their first calls, which is not built
+    /// yet.
     pub fn plan_group<S: Store>(
         &mut self,
         store: &mut S,
@@ -101,9 +106,10 @@ impl Loader {
     ) -> Result<GroupPlan, LoadErr>
         requires consistent { IsConsistent self.old.loaded }
         requires eager { lazy ≡ false }
-        ensures plan { IfOk result (IsPlan self.old.loaded (S.files store.old) root.now global) }
+        ensures plan { IfOk result (IsPlan self.old.loaded.modules (S.files store.old) root.now global) }
         ensures ready { IfOk result (MayCommit self.new) }
-        ensures error { IfErr result (Explains (IsRefused self.old.loaded (S.files store.old) root.now)
+        ensures earlier { (plan : GroupPlan) → MayCommit self.old plan → MayCommit self.new plan }
+        ensures error { IfErr result (Explains (IsRefused self.old.loaded.modules (S.files store.old) root.now)
             (S.faults store.old) (S.faults store.new)) }
         ensures stays { IsUnchanged self.old self.new }
         ensures consistent { IsConsistent self.new.loaded }
@@ -177,7 +183,7 @@ impl Loader {
     /// What slot `k` of module `m` holds, both counted from 0. None exactly where there is no such module or slot.
     pub fn slot_pair(&self, m: u32, k: u32) -> Option<SlotPair>
         requires { IsConsistent self.now.loaded }
-        ensures { result ≡ slot_pair_of self.now.loaded.process self.now.loaded.maps m k }
+        ensures { result ≡ slot_pair_of self.now.loaded.modules.process self.now.loaded.modules.maps m k }
     {
         self.guest.whole();
         slot_pair(&self.process, self.maps.as_slice(), &self.guest, m, k)
@@ -186,7 +192,7 @@ impl Loader {
     /// The name of a live module.
     pub fn module_name(&self, m: u32) -> Option<&Name>
         ensures { option_map (λ name. name.now) result
-            ≡ option_map (λ live. live.name) (live_at self.now.loaded.process m) }
+            ≡ option_map (λ live. live.name) (live_at self.now.loaded.modules.process m) }
     {
         self.process.name_at(m)
     }

@@ -20,7 +20,7 @@ pub fn load_program<S: Store>(
 ) -> Result<Loader, LoadErr>
     requires { Fits plan.now }
     ensures loads { IfOk result (λ l. LoadsProgram plan.now program.now (S.files store.old) l.loaded) }
-    ensures plan { IfOk result (λ l. l.loaded.plan ≡ plan.now) }
+    ensures plan { IfOk result (λ l. l.loaded.modules.plan ≡ plan.now) }
     ensures refused { IfErr result (Explains (IsCause plan.now program.now (S.files store.old))
         (S.faults store.old) (S.faults store.new)) }
     ensures consistent { IfOk result (λ l. IsConsistent l.loaded) }

@@ -3,7 +3,7 @@
 use fd_base::Seq;
 
 /// What is to be placed, as one segment of a module.
-#[derive(Clone, Copy, Debug)]
+#[derive(Clone, Copy)]
 pub struct Item {
     /// Whose range it becomes: a number below 512.
     pub owner: u32,
@@ -18,7 +18,7 @@ pub struct Item {
 }
 
 /// A range of placed addresses with its owner.
-#[derive(Clone, Copy, Debug)]
+#[derive(Clone, Copy)]
 pub struct Held {
     /// Whose range it is: a number below 512.
     pub owner: u32,

@@ -79,7 +79,7 @@ impl Ranges {
 
     /// The items' addresses: the listed ones, and else the lowest that are legal, one item after another.
     /// Nothing is held yet, but `take` has the room that it needs. `NoRoom` names the first item without
-    /// an address. After an error the ranges are as before.
+    /// an address. After an error the ranges are as before. The room never shrinks, whatever the answer.
     pub fn plan(&mut self, items: &Items) -> Result<Addrs, PlaceErr>
         requires owners { All IsOwned items.now }
         requires few { length self.old.held + length items.now < 2 ^ 32 }
@@ -89,6 +89,7 @@ impl Ranges {
         ensures count { IfOk result (λ addrs. length addrs ≡ length items.now) }
         ensures refused { IfErr result (RefusesItems self.old.low self.old.high self.old.held items.now) }
         ensures room { OnOk result (length items.now ≤ self.new.room) }
+        ensures grows { self.old.room ≤ self.new.room }
         ensures stays { self.new ≡ record self.old { room = self.new.room } }
     {
         let mut taken = self.held.clone()?;

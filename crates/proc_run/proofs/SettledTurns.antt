@@ -65,9 +65,9 @@ module _ (old later : Loaded) (threads : Threads) (steps t : ℕ) (thread after 
   same_finish value = ap (λ ts. left_by (state_with later ts (suc steps)) t value) (set_twice threads t (Some after) None)
 
   follows : (x : Served) → ((why : Stop) → x ≡ served.Stopped why → (later ≡ old) × (after ≡ thread)) → gone_as between t later after x ≡ gone_as first t later after x
-  follows served.Went stops = rw (set_twice threads t (Some after) (Some (with_calls later.process later.maps after))) refl
-  follows (served.Wrote bytes) stops = rw (set_twice threads t (Some after) (Some (with_calls later.process later.maps after))) refl
-  follows served.Yielded stops = rw (set_twice threads t (Some after) (Some (with_calls later.process later.maps after))) refl
+  follows served.Went stops = rw (set_twice threads t (Some after) (Some (with_calls later.modules.process later.modules.maps after))) refl
+  follows (served.Wrote bytes) stops = rw (set_twice threads t (Some after) (Some (with_calls later.modules.process later.modules.maps after))) refl
+  follows served.Yielded stops = rw (set_twice threads t (Some after) (Some (with_calls later.modules.process later.modules.maps after))) refl
   follows (served.Finished value) stops = same_finish value
   follows (served.Exited value) stops = rw (set_none threads t (Some after)) refl
   follows (served.Stopped why) stops = rw (same_state (stops why refl)) refl
@@ -135,7 +135,7 @@ Leaves limit old threads steps t new later after r =
     turn_of limit (state_with old threads steps) t ≡ taken_with new later after r
 
 pub turn_taken : {E : Type 0} (keep : StopsKeep) (limit : ℕ) (old new : Loaded) (p : SymbolicProcess) (maps : List (List MapEntry)) (threads mid ended : Threads) (steps steps_after t : ℕ) (x : Served)
-    (r : Result Settled E) → lives threads t ≡ true → nat_le limit steps ≡ false → p ≡ new.process → maps ≡ new.maps
+    (r : Result Settled E) → lives threads t ≡ true → nat_le limit steps ≡ false → p ≡ new.modules.process → maps ≡ new.modules.maps
     → ((thread : Thread) → thread_at threads t ≡ Some thread → HasObeyed old new threads mid t thread x)
     → ((l : Loaded) (thread : Thread) → IsAt l p maps mid t thread → IfOk r (λ r. Left l ended steps_after r.answer r.events (gone_as (state_with l mid steps) t l thread x)))
     → IfOk r (Leaves limit old threads steps t new ended steps_after)
@@ -162,13 +162,13 @@ if_ok (Err e) p = tt
 
 -- the modules of a loader stay placed where its memory changes
 pub placed_at : ConsistentArePlaced → (old new : Loaded) (p : SymbolicProcess) (maps : List (List MapEntry)) → IsConsistent old → Keeps old.memory new.memory
-    → new ≡ record old { memory = new.memory } → old.plan.memory < 2 ^ 32 → p ≡ new.process → maps ≡ new.maps → ArePlaced p maps
+    → new ≡ record old { memory = new.memory } → old.modules.plan.memory < 2 ^ 32 → p ≡ new.modules.process → maps ≡ new.modules.maps → ArePlaced p maps
 placed_at law old new p maps c keeps rest small same_p same_maps =
-    let plan : new.plan ≡ old.plan = ap (λ (l : Loaded). l.plan) rest in
-    let below : new.plan.memory < 2 ^ 32 = rw plan small in
+    let plan : new.modules.plan ≡ old.modules.plan = ap (λ (l : Loaded). l.modules.plan) rest in
+    let below : new.modules.plan.memory < 2 ^ 32 = rw plan small in
     rw (same_p, same_maps) (law new (kept old new c keeps rest) below)
 
 -- the modules of a loader are placed
-pub placed_now : ConsistentArePlaced → (l : Loaded) (p : SymbolicProcess) (maps : List (List MapEntry)) → IsConsistent l → l.plan.memory < 2 ^ 32 → p ≡ l.process → maps ≡ l.maps
+pub placed_now : ConsistentArePlaced → (l : Loaded) (p : SymbolicProcess) (maps : List (List MapEntry)) → IsConsistent l → l.modules.plan.memory < 2 ^ 32 → p ≡ l.modules.process → maps ≡ l.modules.maps
     → ArePlaced p maps
 placed_now law l p maps c small same_p same_maps = rw (same_p, same_maps) (law l c small)

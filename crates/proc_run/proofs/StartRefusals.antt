@@ -40,11 +40,11 @@ not_built (Some told) job old new program lazy is = by job.lazy lazy
 
 -- there is no entry point
 pub no_entry : (files : Option Files) (job : Job) (old new : ℕ) (l : Loaded) → job.lazy ≡ false → LoadsProgram job.plan job.program files l
-    → entry_point l.process l.maps 0 ≡ None → ExplainsStart job files old new (Refused (NotCode 0 None))
+    → entry_point l.modules.process l.modules.maps 0 ≡ None → ExplainsStart job files old new (Refused (NotCode 0 None))
 no_entry None job old new l eager loads none = tt
 no_entry (Some told) job old new l eager loads none =
     as_refused job told (NotCode 0 None) job.lazy eager (inr (refl, record { loaded = l; loads = loads; none = none }))
 
 pub no_entry_as : (files : Option Files) (job : Job) (old new : ℕ) (l : Loaded) (e : LoadErr) → job.lazy ≡ false → LoadsProgram job.plan job.program files l
-    → (e ≡ Refused (NotCode 0 None)) × (entry_point l.process l.maps 0 ≡ None) → ExplainsStart job files old new e
+    → (e ≡ Refused (NotCode 0 None)) × (entry_point l.modules.process l.modules.maps 0 ≡ None) → ExplainsStart job files old new e
 no_entry_as files job old new l e eager loads h = subst (ExplainsStart job files old new) (sym h.0) (no_entry files job old new l eager loads h.1)

@@ -47,8 +47,8 @@ module _ (limit : ℕ) (s : State) (t : ℕ) where
   either true x y h k = h
   either false x y h k = k
 
-  still_there : (l : Loaded) (thread : Thread) → t < length s.threads → lives (set s.threads t (Some (with_calls l.process l.maps thread))) t ≡ true
-  still_there l thread lt = ap is_some (get_or-set_same s.threads t (Some (with_calls l.process l.maps thread)) None lt)
+  still_there : (l : Loaded) (thread : Thread) → t < length s.threads → lives (set s.threads t (Some (with_calls l.modules.process l.modules.maps thread))) t ≡ true
+  still_there l thread lt = ap is_some (get_or-set_same s.threads t (Some (with_calls l.modules.process l.modules.maps thread)) None lt)
 
   left-answers : (l : Loaded) (value : ℕ) → s.steps < limit → Answers limit s t (finished s t l value)
   left-answers l value more =

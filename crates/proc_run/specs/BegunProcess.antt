@@ -17,5 +17,5 @@ begun l entry limit = record { state = state_with l (thread_at_entry l entry); l
 -- what is loaded has an entry point, at which the process begins
 pub record IsBegun (l : Loaded) (limit : ℕ) (p : Running) : Type 0 where
   pub entry : ℕ
-  pub entry' : entry_point l.process l.maps 0 ≡ Some entry
+  pub entry' : entry_point l.modules.process l.modules.maps 0 ≡ Some entry
   pub begins : p ≡ begun l entry limit

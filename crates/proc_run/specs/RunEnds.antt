@@ -23,7 +23,7 @@ pub record IsRun (job : Job) (told : Files) (c : Course) : Type 0 where
   pub loaded : Loaded
   pub entry : ℕ
   pub loads : IsProgramLoaded job.plan told job.program loaded
-  pub entry' : entry_point loaded.process loaded.maps 0 ≡ Some entry
+  pub entry' : entry_point loaded.modules.process loaded.modules.maps 0 ≡ Some entry
   pub course' : c ≡ run_of loaded job.steps (schedule_of job.turns) entry
 
 -- the run ends by this answer, and out has gained its report

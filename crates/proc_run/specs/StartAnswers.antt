@@ -16,7 +16,7 @@ use Rattle.proc_run.specs.RunningProcess.{Running}
 pub record HasNoEntry (job : Job) (told : Files) : Type 0 where
   pub loaded : Loaded
   pub loads : IsProgramLoaded job.plan told job.program loaded
-  pub none : entry_point loaded.process loaded.maps 0 ≡ None
+  pub none : entry_point loaded.modules.process loaded.modules.maps 0 ≡ None
 
 -- Slots that are bound at their first calls are not built. Otherwise the load is refused, or what is loaded has no entry
 -- point, which is tested after all else.

@@ -9,7 +9,7 @@ ghost use Rattle.run_model.specs.Start as spec;
 ghost use Rattle.run_model.specs.Turns.{entering};
 ghost use Rattle.run_turn.specs.parts.PlacedModules.{ArePlaced};
 ghost use Rattle.proc_run.specs.BegunProcess.{thread_at_entry};
-ghost use Rattle.run_turn.specs.CallsInProgress.{IsInProgress};
+ghost use Rattle.run_turn.specs.parts.CallsInProgress.{BeganInTurn};
 
 use a32_machine::Cpu;
 use fd_base::Memory;
@@ -98,43 +98,37 @@ fn first_cpu(got: u32, stack_end: u32, entry: u32) -> Cpu
 }
 
 /// The call that begins with these registers, if any.
-fn first_calls(
-    alloc: Global,
-    process: &SymbolicProcess,
-    maps: &[MapEntries],
-    cpu: &Cpu,
-) -> Result<Calls, Memory>
+fn first_calls(process: &SymbolicProcess, maps: &[MapEntries], cpu: &Cpu) -> Calls
     requires { ArePlaced process.now maps.now }
-    ensures calls { IfOk result (λ calls. calls ≡ option_to_list (place.call_begun process.now maps.now cpu.now)) }
-    ensures progress { IfOk result (All IsInProgress) }
+    ensures calls { result ≡ option_to_list (place.call_begun process.now maps.now cpu.now) }
+    ensures progress { BeganInTurn result }
 {
-    let mut calls = Calls::new(alloc);
+    let mut calls = Calls::new();
     if let Some(call) = call_begun(process, maps, cpu) {
-        calls.push(call)?;
+        calls.push(call);
     }
-    Ok(calls)
+    calls
 }
 
 /// Thread 0 at the entry point of the program, with this end of its stack.
 pub(crate) fn first_thread(
-    alloc: Global,
     process: &SymbolicProcess,
     maps: &[MapEntries],
     stack_end: u32,
     entry: u32,
-) -> Result<Thread, Memory>
+) -> Thread
     requires { ArePlaced process.now maps.now }
-    ensures thread { (l : Loaded) → l.process ≡ process.now → l.maps ≡ maps.now → l.plan.memory ≡ stack_end
-        → IfOk result (λ thread. thread ≡ thread_at_entry l entry) }
-    ensures calls { IfOk result (λ thread. All IsInProgress thread.calls) }
+    ensures thread { (l : Loaded) → l.modules.process ≡ process.now → l.modules.maps ≡ maps.now → l.modules.plan.memory ≡ stack_end
+        → result ≡ thread_at_entry l entry }
+    ensures calls { BeganInTurn result.calls }
 {
     let cpu = first_cpu(got_word(process, maps, 0), stack_end, entry);
-    let calls = first_calls(alloc, process, maps, &cpu)?;
-    Ok(Thread {
+    let calls = first_calls(process, maps, &cpu);
+    Thread {
         cpu,
         refusal: 0,
         calls,
-    })
+    }
 }
 
 /// Places of threads, none of which live.

@@ -18,7 +18,7 @@ impl Process {
     ghost use Rattle.run_model.specs.Turns.{turn_of};
     ghost use Rattle.proc_run.specs.RunParts.{DoesPart, EndsAs, GoesSame, after_step, schedule_of};
     ghost use Rattle.proc_run.specs.parts.ReadyProcess.{IsReady};
-    ghost use Rattle.proc_run.specs.RunningProcess.{IsRunning};
+    ghost use Rattle.proc_run.specs.parts.ReadyProcess.{IsRunning};
 
     /// One step of a live thread, and who is to go on.
     fn step<O: Sink>(&mut self, thread: u32, out: &mut O) -> Result<Going, RunEnd>

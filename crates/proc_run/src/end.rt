@@ -4,7 +4,7 @@ use load_model::LoadRefusal;
 use run_model::Stop;
 
 /// How the run of a job ends.
-#[derive(Debug, Drop)]
+#[derive(Drop)]
 pub enum RunEnd {
     /// The process has ended, or no thread lives.
     Ended,
@@ -21,7 +21,7 @@ pub enum RunEnd {
 }
 
 /// Who has the next turn.
-#[derive(Clone, Copy, Debug, PartialEq, Eq)]
+#[derive(Clone, Copy, PartialEq, Eq)]
 pub(crate) enum Going {
     /// The same thread.
     Same,

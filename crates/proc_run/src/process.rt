@@ -8,7 +8,7 @@ ghost use Rattle.load_state.specs.Consistent.{IsConsistent};
 ghost use Rattle.run_model.specs.Places.{entry_point};
 ghost use Rattle.run_model.specs.State as state;
 ghost use Rattle.proc_run.specs.BegunProcess.{begun};
-ghost use Rattle.proc_run.specs.RunningProcess.{IsRunning};
+ghost use Rattle.proc_run.specs.parts.ReadyProcess.{IsRunning};
 
 use crate::begin::{first_events, first_thread, threads_with};
 use crate::taking::take_turn;
@@ -58,7 +58,7 @@ impl Process {
     ghost use Rattle.load_model.specs.declared.plan.TheConstants.{THREADS};
     ghost use Rattle.run_report.specs.parts.PieceByPiece.{Puts};
     ghost use Rattle.proc_run.specs.StartAnswers.{ExplainsStart, IsStarted};
-    ghost use Rattle.proc_run.specs.RunningProcess.{IsRunning};
+    ghost use Rattle.proc_run.specs.parts.ReadyProcess.{IsRunning};
     ghost use Rattle.proc_run.specs.parts.Turns.{GoesOn, PutsTurn, TurnAnswers, with_lines};
 
     /// Loads the program of a job, with every slot bound, and begins its process. That it has an entry point is tested
@@ -180,8 +180,8 @@ impl Process {
 /// The placed entry point of the program.
 fn entry_of(loader: &Loader) -> Result<u32, LoadErr>
     requires { IsConsistent loader.now.loaded }
-    ensures entry { IfOk result (λ entry. entry_point loader.now.loaded.process loader.now.loaded.maps 0 ≡ Some entry) }
-    ensures none { IfErr result (λ e. (e ≡ Refused (NotCode 0 None)) × (entry_point loader.now.loaded.process loader.now.loaded.maps 0 ≡ None)) }
+    ensures entry { IfOk result (λ entry. entry_point loader.now.loaded.modules.process loader.now.loaded.modules.maps 0 ≡ Some entry) }
+    ensures none { IfErr result (λ e. (e ≡ Refused (NotCode 0 None)) × (entry_point loader.now.loaded.modules.process loader.now.loaded.modules.maps 0 ≡ None)) }
 {
     loader.whole();
     consistent_are_placed();
@@ -194,19 +194,13 @@ fn entry_of(loader: &Loader) -> Result<u32, LoadErr>
 /// The process of a job over what is loaded, with its first thread at an entry point.
 fn begin(alloc: Global, job: &Job, loader: Loader, entry: u32) -> Result<Process, Memory>
     requires consistent { IsConsistent loader.loaded }
-    requires plan { loader.loaded.plan ≡ job.now.plan }
+    requires plan { loader.loaded.modules.plan ≡ job.now.plan }
     ensures begins { IfOk result (λ p. p ≡ begun loader.loaded entry job.now.steps) }
     ensures running { IfOk result IsRunning }
 {
     loader.whole();
     consistent_are_placed();
-    let thread = first_thread(
-        alloc,
-        loader.process(),
-        loader.maps(),
-        job.plan.memory,
-        entry,
-    )?;
+    let thread = first_thread(loader.process(), loader.maps(), job.plan.memory, entry);
     let pending = first_events(alloc, loader.process(), &thread)?;
     let threads = threads_with(alloc, thread)?;
     Ok(Process {

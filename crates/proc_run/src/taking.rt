@@ -9,7 +9,7 @@ ghost use Rattle.run_model.specs.Instructions as spec;
 ghost use Rattle.run_model.specs.State.{lives, thread_at};
 ghost use Rattle.run_model.specs.Turns.{turn_of};
 ghost use Rattle.proc_run.specs.parts.TakenTurns.{HasObeyed};
-ghost use Rattle.run_turn.specs.CallsInProgress.{AreInProgress};
+ghost use Rattle.run_turn.specs.parts.CallsInProgress.{AreInProgress};
 ghost use Rattle.run_turn.specs.parts.Remainder.{state_with};
 
 use fd_base::Memory;

@@ -63,34 +63,34 @@ module _ (begin : Cpu) (sixteen : length begin.r ≡ 16) (pc r12 r9 : ℕ) where
 
 -- ---- where a slot leads
 
-got_is : (l : Loaded) (m : ℕ) → got_of (placing_of l.process l.maps empty) m ≡ got_word l.process l.maps m
-got_is l m = by (object_at l.process m)
+got_is : (l : Loaded) (m : ℕ) → got_of (placing_of l.modules.process l.modules.maps empty) m ≡ got_word l.modules.process l.modules.maps m
+got_is l m = by (object_at l.modules.process m)
   where
-    by : (o : Option Object) → option_map_or (placed (map_at l.maps m)) (option_map (λ (x : Object). x.got) o) 0 ≡ unwrap_or (option_map (λ (x : Object). placed (map_at l.maps m) x.got) o) 0
+    by : (o : Option Object) → option_map_or (placed (map_at l.modules.maps m)) (option_map (λ (x : Object). x.got) o) 0 ≡ unwrap_or (option_map (λ (x : Object). placed (map_at l.modules.maps m) x.got) o) 0
     by None = refl
     by (Some o) = refl
 
-pub place_is : (l : Loaded) (m k : ℕ) (o : Object) (r : Rel) → object_at l.process m ≡ Some o → slot_of o k ≡ Some r → slot_place l m k ≡ Some (placed (map_at l.maps m) r.site)
+pub place_is : (l : Loaded) (m k : ℕ) (o : Object) (r : Rel) → object_at l.modules.process m ≡ Some o → slot_of o k ≡ Some r → slot_place l m k ≡ Some (placed (map_at l.modules.maps m) r.site)
 place_is l m k o r live is =
-    ap (λ (x : Option Object). option_map (λ (q : Rel). placed (map_at l.maps m) q.site) (option_and_then (λ (y : Object). slot_of y k) x)) live
-    ∙ ap (option_map (λ (q : Rel). placed (map_at l.maps m) q.site)) is
+    ap (λ (x : Option Object). option_map (λ (q : Rel). placed (map_at l.modules.maps m) q.site) (option_and_then (λ (y : Object). slot_of y k) x)) live
+    ∙ ap (option_map (λ (q : Rel). placed (map_at l.modules.maps m) q.site)) is
 
 -- the pair of a slot that leads to a function: where the slot is placed, and the function's placed entry point, at which its code is, and the GOT of its module
 record IsPairOf (l : Loaded) (m k : ℕ) (f : Func) (pair : SlotPair) : Type 0 where
   place' : slot_place l m k ≡ Some pair.addr
-  code' : pair.code ≡ placed (map_at l.maps f.module) f.value
-  got' : pair.got ≡ got_word l.process l.maps f.module
-  is_code : code_at l.process l.maps pair.code ≡ Some f
+  code' : pair.code ≡ placed (map_at l.modules.maps f.module) f.value
+  got' : pair.got ≡ got_word l.modules.process l.modules.maps f.module
+  is_code : code_at l.modules.process l.modules.maps pair.code ≡ Some f
 
-pair_of : (l : Loaded) (m k : ℕ) (f : Func) (pair : SlotPair) → IsConsistent l → LeadsTo l m k f → slot_pair_of l.process l.maps m k ≡ Some pair → IsPairOf l m k f pair
+pair_of : (l : Loaded) (m k : ℕ) (f : Func) (pair : SlotPair) → IsConsistent l → LeadsTo l m k f → slot_pair_of l.modules.process l.modules.maps m k ≡ Some pair → IsPairOf l m k f pair
 pair_of l m k f pair consistent leads listed =
-    let p = placing_of l.process l.maps empty in
-    let at : SlotPair = slot_pair_at (linkage_of l.process) p m leads.object' leads.rel in
+    let p = placing_of l.modules.process l.modules.maps empty in
+    let at : SlotPair = slot_pair_at (linkage_of l.modules.process) p m leads.object' leads.rel in
     let both : Some pair ≡ Some at = sym listed ∙ slot_listed l m k leads.object' leads.rel leads.live leads.is_slot in
     let same : pair ≡ at = cc in
     record {
       place' = place_is l m k leads.object' leads.rel leads.live leads.is_slot ∙ ap (λ (s : SlotPair). Some s.addr) (sym same);
-      code' = ap (λ (s : SlotPair). s.code) same ∙ ap (λ (x : Option Func). option_map_or (λ (g : Func). placed (map_at l.maps g.module) g.value) x 0) leads.leads;
+      code' = ap (λ (s : SlotPair). s.code) same ∙ ap (λ (x : Option Func). option_map_or (λ (g : Func). placed (map_at l.modules.maps g.module) g.value) x 0) leads.leads;
       got' = ap (λ (s : SlotPair). s.got) same ∙ ap (λ (x : Option Func). option_map_or (λ (g : Func). got_of p g.module) x 0) leads.leads ∙ got_is l f.module;
       is_code =
           slots_lead_to_placed_code_lem.function l m k leads.object' leads.rel pair f consistent (record { live = leads.live; is_slot = leads.is_slot; pair = listed }) leads.leads;
@@ -98,7 +98,7 @@ pair_of l m k f pair consistent leads listed =
 
 -- ---- a moment at which a call begins
 
-module _ (l : Loaded) (small : l.plan.memory < 2 ^ 32) (limit : ℕ) where
+module _ (l : Loaded) (small : l.modules.plan.memory < 2 ^ 32) (limit : ℕ) where
   module _ (s : State) (stays : StandsAtMoment l limit s) (t : ℕ) (thread : Thread) (call : Call) (enters : Enters s t thread call) (clear : IsAtClearEntry s.loaded thread.cpu call) where
     pub registers : length thread.cpu.r ≡ 16
     registers = (stays.threads' t thread enters.new.lives).registers
@@ -106,11 +106,11 @@ module _ (l : Loaded) (small : l.plan.memory < 2 ^ 32) (limit : ℕ) where
     -- what the call rests on
     pub held : IsHeldCall s.loaded thread.cpu call
     held =
-        let below : s.loaded.plan.memory < 2 ^ 32 = rw stays.loaded'.plan' small in
+        let below : s.loaded.modules.plan.memory < 2 ^ 32 = rw stays.loaded'.plan' small in
         begun_calls_hold_lem s.loaded thread.cpu call stays.loaded'.consistent below registers enters.begun clear
 
     abbrev pub c : BoundCall
-    c = bound_call (pc_of thread.cpu) (got_word s.loaded.process s.loaded.maps call.number) held.pair
+    c = bound_call (pc_of thread.cpu) (got_word s.loaded.modules.process s.loaded.modules.maps call.number) held.pair
 
     in_call : InCall thread.cpu c t 0 s
     in_call = record { cpu = ap (option_map (λ (x : Thread). x.cpu)) enters.new.lives; holds = held.holds }

@@ -27,10 +27,10 @@ pub contains_option : {X : Type 0} (o : Option X) (x : X) → o ≡ Some x → C
 contains_option None x e = absurd cc
 contains_option (Some y) x e = let same : y ≡ x = cc in (0, omega arith, same)
 
-pub new_begins : (l : Loaded) (thread : Thread) (call : Call) → call_begun l.process l.maps thread.cpu ≡ Some call → call.done ≡ 0
+pub new_begins : (l : Loaded) (thread : Thread) (call : Call) → call_begun l.modules.process l.modules.maps thread.cpu ≡ Some call → call.done ≡ 0
 new_begins l thread call is = ap (λ (c : Call). c.done) (begun l thread.cpu call is).call'
 
-pub new_length : (l : Loaded) (thread : Thread) (call : Call) → call_begun l.process l.maps thread.cpu ≡ Some call → call.length ≡ BOUND_CALL
+pub new_length : (l : Loaded) (thread : Thread) (call : Call) → call_begun l.modules.process l.modules.maps thread.cpu ≡ Some call → call.length ≡ BOUND_CALL
 new_length l thread call is = ap (λ (c : Call). c.length) (begun l thread.cpu call is).call'
 
 -- ---- places of threads
@@ -140,23 +140,23 @@ module _ (l : Loaded) (limit : ℕ) (begin : State) where
     -- the thread's own calls, where it goes on to this state
     module _ (was thread : Thread) (memory : GuestMemory) (step : IsStep limit s t was thread memory) (later : State) (there : turns_from limit next begin ≡ Some later)
         (loaded' : later.loaded ≡ record s.loaded { memory = memory })
-        (at : thread_at later.threads t ≡ Some (with_calls s.loaded.process s.loaded.maps thread)) where
+        (at : thread_at later.threads t ≡ Some (with_calls s.loaded.modules.process s.loaded.modules.maps thread)) where
       abbrev moved : Thread
-      moved = with_calls s.loaded.process s.loaded.maps thread
+      moved = with_calls s.loaded.modules.process s.loaded.modules.maps thread
 
-      pub entering-now : (call : Call) → call_begun s.loaded.process s.loaded.maps thread.cpu ≡ Some call → Enters later t moved call
+      pub entering-now : (call : Call) → call_begun s.loaded.modules.process s.loaded.modules.maps thread.cpu ≡ Some call → Enters later t moved call
       entering-now call is = record {
         new = record {
           lives = at;
-          among = Contains-append_right (filter (λ call. not (is_complete call)) (map advanced thread.calls)) (option_to_list (call_begun s.loaded.process s.loaded.maps thread.cpu)) call
-              (contains_option (call_begun s.loaded.process s.loaded.maps thread.cpu) call is);
+          among = Contains-append_right (filter (λ call. not (is_complete call)) (map advanced thread.calls)) (option_to_list (call_begun s.loaded.modules.process s.loaded.modules.maps thread.cpu)) call
+              (contains_option (call_begun s.loaded.modules.process s.loaded.modules.maps thread.cpu) call is);
           none_done = new_begins s.loaded thread call is;
         };
         begun = rw loaded' is;
       }
 
       -- the call that begins
-      new-begun : (call : Call) → call_begun s.loaded.process s.loaded.maps thread.cpu ≡ Some call → HasBegun limit begin next t call
+      new-begun : (call : Call) → call_begun s.loaded.modules.process s.loaded.modules.maps thread.cpu ≡ Some call → HasBegun limit begin next t call
       new-begun call is = record {
         first = next;
         before = [];
@@ -173,7 +173,7 @@ module _ (l : Loaded) (limit : ℕ) (begin : State) where
       own-kept : All (HasBegun limit begin next t) moved.calls
       own-kept =
           let P : Call → Type 0 = HasBegun limit begin next t in
-          let o : Option Call = call_begun s.loaded.process s.loaded.maps thread.cpu in
+          let o : Option Call = call_begun s.loaded.modules.process s.loaded.modules.maps thread.cpu in
           let old : All (HasBegun limit begin done t) thread.calls = subst (All (HasBegun limit begin done t)) (sym step.calls') (h.histories t was step.at) in
           All-append P (filter (λ call. not (is_complete call)) (map advanced thread.calls)) (option_to_list o)
           (All-filter (λ call. not (is_complete call)) P (map advanced thread.calls)
@@ -192,7 +192,7 @@ module _ (l : Loaded) (limit : ℕ) (begin : State) where
         → turns_from limit next begin ≡ Some (went s t (record s.loaded { memory = memory }) thread out answer).state
         → HasHistories next (went s t (record s.loaded { memory = memory }) thread out answer).state
     went-kept was thread memory step out answer goes there =
-        let moved : Thread = with_calls s.loaded.process s.loaded.maps thread in
+        let moved : Thread = with_calls s.loaded.modules.process s.loaded.modules.maps thread in
         let inside : t < length s.threads = thread_inside s.threads t was step.at in
         let later : State = (went s t (record s.loaded { memory = memory }) thread out answer).state in
         let own : All (HasBegun limit begin next t) moved.calls = own-kept was thread memory step later there refl (get_or-set_same s.threads t (Some moved) None inside) in

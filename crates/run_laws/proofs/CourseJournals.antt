@@ -26,7 +26,7 @@ use Rattle.run_laws.proofs.NowhereCalls.{calls_fault}
 use Rattle.run_laws.proofs.RunStarts.{begin-lives, begin-reached, begin-stays, first-tells, loaded_consistent, loaded_plan}
 
 -- of what is loaded, by any schedule
-module _ (l : Loaded) (limit : ℕ) (schedule : List (ℕ × ℕ)) (entry : ℕ) (consistent : IsConsistent l) (small : l.plan.memory < 2 ^ 32) where
+module _ (l : Loaded) (limit : ℕ) (schedule : List (ℕ × ℕ)) (entry : ℕ) (consistent : IsConsistent l) (small : l.modules.plan.memory < 2 ^ 32) where
   abbrev begin : State
   begin = state_with l (thread_at_entry l entry)
 
@@ -76,6 +76,6 @@ pub runs_have_journals_lem : RunsHaveJournals
 runs_have_journals_lem job told c small run =
     let l : Loaded = run.loaded in
     let thread = thread_at_entry l run.entry in
-    let below : l.plan.memory < 2 ^ 32 = subst (λ (p : MemPlan). p.memory < 2 ^ 32) (sym (loaded_plan job.plan told job.program l run.loads)) small in
+    let below : l.modules.plan.memory < 2 ^ 32 = subst (λ (p : MemPlan). p.memory < 2 ^ 32) (sym (loaded_plan job.plan told job.program l run.loads)) small in
     subst (IsJournal l job.steps (schedule_of job.turns) (state_with l thread) (first_events l thread)) (sym run.course')
     (journal_of l job.steps (schedule_of job.turns) run.entry (loaded_consistent job.plan told job.program l run.loads) below)

@@ -83,10 +83,10 @@ module _ (l : Loaded) (limit : ℕ) (begin : State) (done : List ℕ) (s : State
     later = (went s t (record s.loaded { memory = memory }) thread out answer).state
 
     abbrev moved : Thread
-    moved = with_calls s.loaded.process s.loaded.maps thread
+    moved = with_calls s.loaded.modules.process s.loaded.modules.maps thread
 
     abbrev place : Option Func
-    place = code_at s.loaded.process s.loaded.maps (pc_of thread.cpu)
+    place = code_at s.loaded.modules.process s.loaded.modules.maps (pc_of thread.cpu)
 
     there : turns_from limit next begin ≡ Some later
     there = next-reached l limit begin done s t h later goes
@@ -94,7 +94,7 @@ module _ (l : Loaded) (limit : ℕ) (begin : State) (done : List ℕ) (s : State
     at : thread_at later.threads t ≡ Some moved
     at = get_or-set_same s.threads t (Some moved) None (thread_inside s.threads t was step.at)
 
-    enter-tells : (call : Call) → call_begun s.loaded.process s.loaded.maps thread.cpu ≡ Some call → Tells limit begin turns (entering (suc s.steps) t call)
+    enter-tells : (call : Call) → call_begun s.loaded.modules.process s.loaded.modules.maps thread.cpu ≡ Some call → Tells limit begin turns (entering (suc s.steps) t call)
     enter-tells call is = record {
       calls' = record {
         s = later;
@@ -145,10 +145,10 @@ module _ (l : Loaded) (limit : ℕ) (begin : State) (done : List ℕ) (s : State
     went-tells : All (IsOut limit s t) out → All (Tells limit begin turns) (went s t (record s.loaded { memory = memory }) thread out answer).events
     went-tells told =
         let P : Event → Type 0 = Tells limit begin turns in
-        let o : Option Call = call_begun s.loaded.process s.loaded.maps thread.cpu in
+        let o : Option Call = call_begun s.loaded.modules.process s.loaded.modules.maps thread.cpu in
         let moved_on : List Call = map advanced thread.calls in
         let histories : All (HasBegun limit begin done t) thread.calls = subst (All (HasBegun limit begin done t)) (sym step.calls') (h.histories t was step.at) in
-        All-append P out (call_events s.loaded.process s.loaded.maps (suc s.steps) t thread) (All-weaker (IsOut limit s t) P out-tells out told)
+        All-append P out (call_events s.loaded.modules.process s.loaded.modules.maps (suc s.steps) t thread) (All-weaker (IsOut limit s t) P out-tells out told)
         (All-append P (flat_map (λ call. arrival (suc s.steps) t place) (filter is_complete moved_on)) (map (entering (suc s.steps) t) (option_to_list o))
         (arrivals-are P (suc s.steps) t place (filter is_complete moved_on) (λ f is.
         let Q : Call → Type 0 = λ call. P (event.Arrive (suc s.steps) t f) in

@@ -82,7 +82,7 @@ turn-leaves limit s t h =
       absent = λ none. h;
       halts = λ why. tt;
       goes = λ was thread memory step out answer told goes.
-          let moved : Thread = with_calls s.loaded.process s.loaded.maps thread in
+          let moved : Thread = with_calls s.loaded.modules.process s.loaded.modules.maps thread in
           let there = get_or-set_same s.threads t (Some moved) None (thread_inside s.threads t was step.at) in
           subst (λ (o : Option State). IfSome o SomeLives) (sym (goes _))
           (record { count = length-set s.threads t (Some moved) ∙ h.count; some = lives_among (set s.threads t (Some moved)) t moved there });

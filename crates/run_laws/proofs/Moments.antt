@@ -40,7 +40,7 @@ lives_after_set (x ∷ xs) (suc t) (suc u) o thread e = lives_after_set xs t u o
 module _ (l : Loaded) (limit : ℕ) where
   -- a call of which no step is done begins with this cpu
   abbrev pub IsOwn : Cpu → Call → Type 0
-  IsOwn cpu call = call.done ≡ 0 → call_begun l.process l.maps cpu ≡ Some call
+  IsOwn cpu call = call.done ≡ 0 → call_begun l.modules.process l.modules.maps cpu ≡ Some call
 
   pub record IsSettled (thread : Thread) : Type 0 where
     pub registers : length thread.cpu.r ≡ 16
@@ -61,12 +61,12 @@ module _ (l : Loaded) (limit : ℕ) where
     }
 
     -- calls that go on have a step done, and one that begins does so with the cpu after the step
-    calls-own : (thread : Thread) → All (IsOwn thread.cpu) (with_calls s.loaded.process s.loaded.maps thread).calls
+    calls-own : (thread : Thread) → All (IsOwn thread.cpu) (with_calls s.loaded.modules.process s.loaded.modules.maps thread).calls
     calls-own thread =
         let P : Call → Type 0 = IsOwn thread.cpu in
         let moved : List Call = map advanced thread.calls in
-        let begun : Option Call = call_begun s.loaded.process s.loaded.maps thread.cpu in
-        let same : call_begun l.process l.maps thread.cpu ≡ begun = rw (h.loaded'.process', h.loaded'.maps') refl in
+        let begun : Option Call = call_begun s.loaded.modules.process s.loaded.modules.maps thread.cpu in
+        let same : call_begun l.modules.process l.modules.maps thread.cpu ≡ begun = rw (h.loaded'.process', h.loaded'.maps') refl in
         All-append P (filter (λ call. not (is_complete call)) moved) (option_to_list begun)
         (All-filter (λ call. not (is_complete call)) P moved (All-map P advanced thread.calls (λ k d lt none. absurd (omega (arith, none)))))
         (each_option P begun (λ call is new. same ∙ is))
@@ -79,7 +79,7 @@ module _ (l : Loaded) (limit : ℕ) where
     went-stays : (was thread : Thread) (memory : GuestMemory) → IsStep limit s t was thread memory → (events : List Event) (answer : Turned) → GoesOn limit s t answer
         → IfSome (after (went s t (record s.loaded { memory = memory }) thread events answer)) StandsAtMoment
     went-stays was thread memory step events answer goes =
-        let moved : Thread = with_calls s.loaded.process s.loaded.maps thread in
+        let moved : Thread = with_calls s.loaded.modules.process s.loaded.modules.maps thread in
         let later : State = (went s t (record s.loaded { memory = memory }) thread events answer).state in
         let settled : IsSettled moved = record { registers = step.registers' ∙ (h.threads' t was step.at).registers; calls' = calls-own thread } in
         let stays : StandsAtMoment later =

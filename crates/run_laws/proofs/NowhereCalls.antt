@@ -59,21 +59,21 @@ above_zero : (a b : ℕ) → 0 < a → a ≤ b → 0 < b
 above_zero a b pos le = omega arith
 
 module _ (l : Loaded) (h : IsConsistent l) where
-  low_positive : 0 < low_of l.plan
-  low_positive = positive l.plan.descriptors (low_of l.plan) (low_above l.plan)
+  low_positive : 0 < low_of l.modules.plan
+  low_positive = positive l.modules.plan.descriptors (low_of l.modules.plan) (low_above l.modules.plan)
 
-  nothing_fixed : fixed_kind l.plan 0 ≡ None
+  nothing_fixed : fixed_kind l.modules.plan 0 ≡ None
   nothing_fixed =
-      let behind : nat_le (high_of l.plan) 0 ≡ false = lt-leb (high_of l.plan) 0 (above_zero (low_of l.plan) (high_of l.plan) low_positive h.fits.modules) in
+      let behind : nat_le (high_of l.modules.plan) 0 ≡ false = lt-leb (high_of l.modules.plan) 0 (above_zero (low_of l.modules.plan) (high_of l.modules.plan) low_positive h.fits.modules) in
       rw behind refl
 
-  no_segment : (m : ℕ) (s : Segment) (e : MapEntry) → LiesAt (in_memory l.process l.maps) m s e → is_in e.addr e.memsz 0 ≡ false
+  no_segment : (m : ℕ) (s : Segment) (e : MapEntry) → LiesAt (in_memory l.modules.process l.modules.maps) m s e → is_in e.addr e.memsz 0 ≡ false
   no_segment m s e at =
-      let found = zip_at (IsEntryOf l.plan) (at.object').segments (map_at l.maps m) at.k s (h.modules'.standing m at.object' at.live).mapped at.segment in
+      let found = zip_at (IsEntryOf l.modules.plan) (at.object').segments (map_at l.modules.maps m) at.k s (h.modules'.standing m at.object' at.live).mapped at.segment in
       let both : Some found.0 ≡ Some e = sym found.1 ∙ at.entry in
       let same : found.0 ≡ e = cc in
-      let entry : IsEntryOf l.plan s e = subst (IsEntryOf l.plan s) same found.2 in
-      let behind : nat_le e.addr 0 ≡ false = lt-leb e.addr 0 (above_zero (low_of l.plan) e.addr low_positive entry.above) in
+      let entry : IsEntryOf l.modules.plan s e = subst (IsEntryOf l.modules.plan s) same found.2 in
+      let behind : nat_le e.addr 0 ≡ false = lt-leb e.addr 0 (above_zero (low_of l.modules.plan) e.addr low_positive entry.above) in
       rw behind refl
 
   unmapped : kind_at l.memory 0 ≡ None
@@ -111,12 +111,12 @@ stops_there limit s t thread at early step =
 -- it holds zeros, and no code is at address 0
 record IsZeroPair (l : Loaded) (pair : SlotPair) : Type 0 where
   zero' : pair.code ≡ 0
-  no_code : code_at l.process l.maps pair.code ≡ None
+  no_code : code_at l.modules.process l.modules.maps pair.code ≡ None
 
-pair_nowhere : (l : Loaded) (m k : ℕ) (pair : SlotPair) → IsConsistent l → LeadsNowhere l m k → slot_pair_of l.process l.maps m k ≡ Some pair → IsZeroPair l pair
+pair_nowhere : (l : Loaded) (m k : ℕ) (pair : SlotPair) → IsConsistent l → LeadsNowhere l m k → slot_pair_of l.modules.process l.modules.maps m k ≡ Some pair → IsZeroPair l pair
 pair_nowhere l m k pair consistent leads listed =
-    let p = placing_of l.process l.maps empty in
-    let at : SlotPair = slot_pair_at (linkage_of l.process) p m leads.object' leads.rel in
+    let p = placing_of l.modules.process l.modules.maps empty in
+    let at : SlotPair = slot_pair_at (linkage_of l.modules.process) p m leads.object' leads.rel in
     let both : Some pair ≡ Some at = sym listed ∙ slot_listed l m k leads.object' leads.rel leads.live leads.is_slot in
     let same : pair ≡ at = cc in
     record {
@@ -126,7 +126,7 @@ pair_nowhere l m k pair consistent leads listed =
 
 -- ---- a moment at which such a call begins
 
-module _ (l : Loaded) (small : l.plan.memory < 2 ^ 32) (limit : ℕ) (s : State) (stays : StandsAtMoment l limit s) (t : ℕ) (thread : Thread) (call : Call) (enters : Enters s t thread call)
+module _ (l : Loaded) (small : l.modules.plan.memory < 2 ^ 32) (limit : ℕ) (s : State) (stays : StandsAtMoment l limit s) (t : ℕ) (thread : Thread) (call : Call) (enters : Enters s t thread call)
     (clear : IsAtClearEntry s.loaded thread.cpu call) (leads : LeadsNowhere s.loaded call.number call.slot) where
   abbrev its : IsHeldCall s.loaded thread.cpu call
   its = held l small limit s stays t thread call enters clear
@@ -157,12 +157,12 @@ module _ (l : Loaded) (small : l.plan.memory < 2 ^ 32) (limit : ℕ) (s : State)
         let cpu : Cpu = cpu_after thread.cpu bound 4 in
         let step : step_of live.thread.cpu mid.loaded.memory ≡ went_on cpu mid.loaded.memory =
         ap (λ x. step_of x mid.loaded.memory) live.is ∙ call_step thread.cpu bound mid.loaded.memory 3 its.begins at.holds (omega arith) in
-        let here : code_at s.loaded.process s.loaded.maps (pc_of cpu) ≡ None = ap (code_at s.loaded.process s.loaded.maps) (at_end mid.loaded.memory) ∙ zeros.no_code in
-        let process : mid.loaded.process ≡ s.loaded.process = stands.loaded'.process' ∙ sym stays.loaded'.process' in
-        let maps : mid.loaded.maps ≡ s.loaded.maps = stands.loaded'.maps' ∙ sym stays.loaded'.maps' in
-        let nowhere : code_at mid.loaded.process mid.loaded.maps (pc_of cpu) ≡ None = rw (process, maps) here in
+        let here : code_at s.loaded.modules.process s.loaded.modules.maps (pc_of cpu) ≡ None = ap (code_at s.loaded.modules.process s.loaded.modules.maps) (at_end mid.loaded.memory) ∙ zeros.no_code in
+        let process : mid.loaded.modules.process ≡ s.loaded.modules.process = stands.loaded'.process' ∙ sym stays.loaded'.process' in
+        let maps : mid.loaded.modules.maps ≡ s.loaded.modules.maps = stands.loaded'.maps' ∙ sym stays.loaded'.maps' in
+        let nowhere : code_at mid.loaded.modules.process mid.loaded.modules.maps (pc_of cpu) ≡ None = rw (process, maps) here in
         ap (λ (taken : Taken). taken.events) (went_is limit mid t live.thread cpu live.at (lt-leb limit mid.steps early) step)
-        ∙ no_lines mid.loaded.process mid.loaded.maps (suc mid.steps) t (record live.thread { cpu = cpu }) nowhere
+        ∙ no_lines mid.loaded.modules.process mid.loaded.modules.maps (suc mid.steps) t (record live.thread { cpu = cpu }) nowhere
 
     faults : own_turns t before ≡ 4 → turn_of limit mid t ≡ stopped mid t (stop.Fault 0)
     faults four =
@@ -174,7 +174,7 @@ module _ (l : Loaded) (small : l.plan.memory < 2 ^ 32) (limit : ℕ) (s : State)
 
 -- ---- the calls of a run
 
-pub calls_fault : (l : Loaded) → l.plan.memory < 2 ^ 32 → (limit : ℕ) (begin : State) → StandsAtMoment l limit begin → (turns : List ℕ) → EnteredCallsFault limit begin turns
+pub calls_fault : (l : Loaded) → l.modules.plan.memory < 2 ^ 32 → (limit : ℕ) (begin : State) → StandsAtMoment l limit begin → (turns : List ℕ) → EnteredCallsFault limit begin turns
 calls_fault l small limit begin first turns = record {
   silent = λ s mid coming before rest t thread call moment enters clear leads split three there early.
       silent l small limit s (stay l small limit begin first turns s coming moment) t thread call enters clear leads before mid there early three;

@@ -1,24 +1,17 @@
 -- The beginning of a run: what is loaded is consistent, and thread 0 stands at the entry point.
-use Rattle.std.proofs.Common.{◌≡◌, ℕ, zero, suc, ◌<◌, ◌≤◌, Bool, true, false, cond, List, [], ◌∷◌, Option, Some, None, length, replicate, refl, sym, subst, ◌∙◌, arith, inl, inr}
-use Rattle.std.specs.Prelude.{All, IsSomeAnd, map}
-use Rattle.std.specs.FinMap.{get}
+use Rattle.std.proofs.Common.{◌≡◌, ℕ, zero, suc, ◌<◌, ◌≤◌, Bool, true, false, cond, List, [], ◌∷◌, Option, Some, None, length, replicate, refl, sym, ap, subst, ◌∙◌, arith, inl, inr}
+use Rattle.std.specs.Prelude.{All, map}
 use Rattle.std.specs.Option.{option_to_list}
-use Rattle.std.proofs.lemmas.List.Elements.{All-append, All-cons, All-map, All-nil, All-weaker}
+use Rattle.std.proofs.lemmas.List.Elements.{All-append, All-cons, All-map, All-nil}
 use Rattle.fd_base.specs.Fetched.{Files}
-use Rattle.fd_base.specs.declared.store.TheConstants.{MAX_FILE}
-use Rattle.elf_model.specs.declared.object.Object.{Object}
-use Rattle.elf_model.specs.Object.{IsObject}
-use Rattle.elf_model.proofs.Soundness as soundness
 use Rattle.load_laws.proofs.ConsistentAfter.{loads_keep_lem}
-use Rattle.load_model.specs.declared.module.Joining.{Joining}
+use Rattle.load_laws.proofs.NewLoaders.{new_is_consistent_lem}
+use Rattle.load_outcomes.proofs.EachCommit.{files_taken}
 use Rattle.load_model.specs.declared.module.Live.{Live}
 use Rattle.load_model.specs.declared.plan.MemPlan.{MemPlan}
 use Rattle.load_model.specs.declared.plan.TheConstants.{THREADS}
-use Rattle.load_model.specs.Walk.{FileIs}
 use Rattle.load_state.specs.Consistent.{IsConsistent}
-use Rattle.load_state.specs.Loaded.{Loaded}
-use Rattle.load_process.specs.parts.TakenObjects.{IsTaken}
-use Rattle.load_process.proofs.FewSymbols.{taken}
+use Rattle.load_state.specs.Loaded.{Loaded, LoadedModules}
 use Rattle.run_model.specs.declared.event.Event.{Event}
 use Rattle.run_model.specs.declared.event.Event.TheVariants as event
 use Rattle.run_model.specs.declared.thread.Call.{Call}
@@ -38,22 +31,13 @@ use Rattle.run_laws.proofs.Moments.{IsOwn, IsSettled, StandsAtMoment, each_optio
 
 -- ---- what is loaded
 
--- an object that is read from a file is one that can be placed
-file_taken : (told : Files) (name : List ℕ) (o : Object) → FileIs (Some told) name o → IsTaken o
-file_taken told name o h = by (get told name) h
-  where
-    by : (x : Option (List ℕ)) → IsSomeAnd x (λ bytes. (length bytes ≤ MAX_FILE) × IsObject bytes o) → IsTaken o
-    by None h = absurd h
-    by (Some bytes) h = taken bytes o h.1 (soundness.accepted_is_sound bytes o h.1)
-
 pub loaded_consistent : (plan : MemPlan) (told : Files) (name : List ℕ) (l : Loaded) → IsProgramLoaded plan told name l → IsConsistent l
 loaded_consistent plan told name l h =
-    let files : All (λ (j : Joining). FileIs (Some told) j.name j.object) h.group.joining = h.planned.scoped.walk.walked.files' in
-    loads_keep_lem h.start l (Some told) name false h.group h.fresh.consistent h.planned
-    (All-weaker (λ (j : Joining). FileIs (Some told) j.name j.object) (λ (j : Joining). IsTaken j.object) (λ j. file_taken told j.name j.object) h.group.joining files) h.committed
+    loads_keep_lem h.start l (Some told) name false h.group (new_is_consistent_lem plan h.start h.fresh) h.planned
+    (files_taken h.start.modules told name false h.group h.planned) h.committed
 
-pub loaded_plan : (plan : MemPlan) (told : Files) (name : List ℕ) (l : Loaded) → IsProgramLoaded plan told name l → l.plan ≡ plan
-loaded_plan plan told name l h = h.committed.plan' ∙ h.fresh.starts.plan'
+pub loaded_plan : (plan : MemPlan) (told : Files) (name : List ℕ) (l : Loaded) → IsProgramLoaded plan told name l → l.modules.plan ≡ plan
+loaded_plan plan told name l h = h.committed.plan' ∙ ap (λ (m : LoadedModules). m.plan) h.fresh.starts
 
 -- ---- thread 0
 
@@ -72,7 +56,7 @@ module _ (l : Loaded) (entry limit : ℕ) where
   first-settled : IsSettled l limit first
   first-settled = record {
     registers = refl;
-    calls' = each_option (IsOwn l limit first.cpu) (call_begun l.process l.maps first.cpu) (λ call is new. is);
+    calls' = each_option (IsOwn l limit first.cpu) (call_begun l.modules.process l.modules.maps first.cpu) (λ call is new. is);
   }
 
   pub begin-stays : IsConsistent l → StandsAtMoment l limit begin
@@ -86,15 +70,15 @@ module _ (l : Loaded) (entry limit : ℕ) where
   }
 
   -- the call that begins at the entry point
-  first-enters : (call : Call) → call_begun l.process l.maps first.cpu ≡ Some call → Enters begin 0 first call
+  first-enters : (call : Call) → call_begun l.modules.process l.modules.maps first.cpu ≡ Some call → Enters begin 0 first call
   first-enters call is = record {
-    new = record { lives = refl; among = contains_option (call_begun l.process l.maps first.cpu) call is; none_done = new_begins l first call is };
+    new = record { lives = refl; among = contains_option (call_begun l.modules.process l.modules.maps first.cpu) call is; none_done = new_begins l first call is };
     begun = is;
   }
 
   first-histories : All (HasBegun limit begin [] 0) first.calls
   first-histories =
-      each_option (HasBegun limit begin [] 0) (call_begun l.process l.maps first.cpu) (λ call is. record {
+      each_option (HasBegun limit begin [] 0) (call_begun l.modules.process l.modules.maps first.cpu) (λ call is. record {
         first = [];
         before = [];
         done' = refl;
@@ -145,8 +129,8 @@ module _ (l : Loaded) (entry limit : ℕ) where
   pub first-tells : (turns : List ℕ) → All (Tells limit begin turns) (first_events l first)
   first-tells turns =
       let P : Event → Type 0 = Tells limit begin turns in
-      let o : Option Call = call_begun l.process l.maps first.cpu in
-      All-append P (load_events l.process) (map (entering 0 0) first.calls) (loads-tell turns 0 l.process.modules)
+      let o : Option Call = call_begun l.modules.process l.modules.maps first.cpu in
+      All-append P (load_events l.modules.process) (map (entering 0 0) first.calls) (loads-tell turns 0 l.modules.process.modules)
       (All-map P (entering 0 0) (option_to_list o)
       (each_option (λ (call : Call). P (entering 0 0 call)) o (λ call is. record {
         calls' = record {

@@ -18,11 +18,11 @@ module _ (job : Job) (told : Files) where
   -- ---- the entry point
 
   entries_same : (l k : Loaded) → IsProgramLoaded job.plan told job.program l → IsProgramLoaded job.plan told job.program k
-      → entry_point l.process l.maps 0 ≡ entry_point k.process k.maps 0
-  entries_same l k p q = ap (λ (x : Loaded). entry_point x.process x.maps 0) (loads_determined.same job.plan told job.program l k p q)
+      → entry_point l.modules.process l.modules.maps 0 ≡ entry_point k.modules.process k.modules.maps 0
+  entries_same l k p q = ap (λ (x : Loaded). entry_point x.modules.process x.modules.maps 0) (loads_determined.same job.plan told job.program l k p q)
 
   -- a program has an entry point or none
-  no_entry : (l : Loaded) (entry : ℕ) → IsProgramLoaded job.plan told job.program l → entry_point l.process l.maps 0 ≡ Some entry → HasNoEntry job told → ⊥
+  no_entry : (l : Loaded) (entry : ℕ) → IsProgramLoaded job.plan told job.program l → entry_point l.modules.process l.modules.maps 0 ≡ Some entry → HasNoEntry job told → ⊥
   no_entry l entry p is h =
       let never : Some entry ≡ None = sym is ∙ entries_same l h.loaded p h.loads ∙ h.none in
       cc

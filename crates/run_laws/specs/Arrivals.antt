@@ -22,28 +22,28 @@ use Rattle.call_laws.specs.Schedules.{events_from}
 -- slot k of live module m leads to this function: the first definition of the slot's symbol in the module's scope
 pub record LeadsTo (l : Loaded) (m k : ℕ) (f : Func) : Type 0 where
   pub object' : Object
-  pub live : object_at l.process m ≡ Some object'
+  pub live : object_at l.modules.process m ≡ Some object'
   pub rel : Rel
   pub is_slot : slot_of object' k ≡ Some rel
-  pub leads : slot_function (linkage_of l.process) m object' rel ≡ Some f
+  pub leads : slot_function (linkage_of l.modules.process) m object' rel ≡ Some f
 
 -- slot k of live module m leads to no function: its symbol is weak, and has no definition in the module's scope
 pub record LeadsNowhere (l : Loaded) (m k : ℕ) : Type 0 where
   pub object' : Object
-  pub live : object_at l.process m ≡ Some object'
+  pub live : object_at l.modules.process m ≡ Some object'
   pub rel : Rel
   pub is_slot : slot_of object' k ≡ Some rel
-  pub nowhere : slot_function (linkage_of l.process) m object' rel ≡ None
+  pub nowhere : slot_function (linkage_of l.modules.process) m object' rel ≡ None
 
 -- where slot k of live module m is placed: its link address by the load map of the module
 abbrev pub slot_place : Loaded → ℕ → ℕ → Option ℕ
-slot_place l m k = option_map (λ rel. placed (map_at l.maps m) rel.site) (option_and_then (λ o. slot_of o k) (object_at l.process m))
+slot_place l m k = option_map (λ rel. placed (map_at l.modules.maps m) rel.site) (option_and_then (λ o. slot_of o k) (object_at l.modules.process m))
 
 -- The pc is at the placed function, r9 is the GOT of its module, and r12 the address of the slot. All other registers, and
 -- all flags, are as when the call began.
 pub record HasArrived (l : Loaded) (m k : ℕ) (begin now : Cpu) (f : Func) : Type 0 where
-  pub pc' : pc_of now ≡ placed (map_at l.maps f.module) f.value
-  pub got' : get_or now.r 9 0 ≡ got_word l.process l.maps f.module
+  pub pc' : pc_of now ≡ placed (map_at l.modules.maps f.module) f.value
+  pub got' : get_or now.r 9 0 ≡ got_word l.modules.process l.modules.maps f.module
   pub slot' : slot_place l m k ≡ Some (get_or now.r 12 0)
   pub others : (i : ℕ) → i ≢ 9 → i ≢ 12 → i ≢ 15 → get_or now.r i 0 ≡ get_or begin.r i 0
   pub n' : now.n ≡ begin.n

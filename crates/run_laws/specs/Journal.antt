@@ -66,9 +66,9 @@ pub record EnteredCallsFault (limit : ℕ) (begin : State) (turns : List ℕ) : 
 -- a consistent loader with the modules of another, which lie where they did
 pub record StandsAs (l now : Loaded) : Type 0 where
   pub consistent : IsConsistent now
-  pub plan' : now.plan ≡ l.plan
-  pub process' : now.process ≡ l.process
-  pub maps' : now.maps ≡ l.maps
+  pub plan' : now.modules.plan ≡ l.modules.plan
+  pub process' : now.modules.process ≡ l.modules.process
+  pub maps' : now.modules.maps ≡ l.modules.maps
 
 -- What holds of the course of a run of what is loaded, by a schedule, from a state on, with the events before it. Its turns
 -- are those that the schedule and the threads that live give, and the last of them ends it. Each line of a call that begins or

@@ -25,7 +25,7 @@ pub record IsNew (s : State) (t : ℕ) (thread : Thread) (call : Call) : Type 0 
 -- A call of thread t begins: it is new, the pc is at the first word of the entry of its slot, and r9 is the GOT of its module.
 pub record Enters (s : State) (t : ℕ) (thread : Thread) (call : Call) : Type 0 where
   pub new : IsNew s t thread call
-  pub begun : call_begun s.loaded.process s.loaded.maps thread.cpu ≡ Some call
+  pub begun : call_begun s.loaded.modules.process s.loaded.modules.maps thread.cpu ≡ Some call
 
 -- After n steps a call of thread t through slot k of module m begins.
 pub record IsEntered (limit : ℕ) (begin : State) (turns : List ℕ) (n t m k : ℕ) : Type 0 where
@@ -57,7 +57,7 @@ pub record IsArrived (limit : ℕ) (begin : State) (turns : List ℕ) (n t : ℕ
   pub steps' : later.steps ≡ n
   pub now : Thread
   pub lives : thread_at later.threads t ≡ Some now
-  pub place : code_at later.loaded.process later.loaded.maps (pc_of now.cpu) ≡ Some f
+  pub place : code_at later.loaded.modules.process later.loaded.modules.maps (pc_of now.cpu) ≡ Some f
 
 -- The last of the turns ends the run, by this answer.
 pub record EndsBy (limit : ℕ) (begin : State) (turns : List ℕ) (answer : Turned) : Type 0 where

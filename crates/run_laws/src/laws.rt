@@ -12,7 +12,7 @@ pub fn runs_end()
     ensures { RunsEnd }
 {}
 
-/// Where the load of its program is done or refused, a job has a course that ends, or a refusal.
+/// A job over told files has a course that ends, or a refusal, where the parts of its memory fit.
 pub fn runs_come_to()
     ensures { RunsComeTo }
 {}

@@ -1,5 +1,6 @@
 pub mod Courses
 pub mod Instructions
+pub mod Numbers
 pub mod Places
 pub mod Report
 pub mod Services

@@ -37,10 +37,10 @@ abbrev pub first_registers : ℕ → ℕ → ℕ → List ℕ
 first_registers got stack_end entry = set (set (set (set (replicate 16 0) 9 got) 13 stack_end) 14 PROCESS_END) 15 entry
 
 abbrev pub first_cpu : Loaded → ℕ → Cpu
-first_cpu l entry = record { r = first_registers (got_word l.process l.maps 0) l.plan.memory entry; n = false; z = false; c = false; v = false }
+first_cpu l entry = record { r = first_registers (got_word l.modules.process l.modules.maps 0) l.modules.plan.memory entry; n = false; z = false; c = false; v = false }
 
 abbrev pub first_thread : Loaded → Cpu → Thread
-first_thread l cpu = record { cpu = cpu; refusal = 0; calls = option_to_list (call_begun l.process l.maps cpu) }
+first_thread l cpu = record { cpu = cpu; refusal = 0; calls = option_to_list (call_begun l.modules.process l.modules.maps cpu) }
 
 abbrev pub state_with : Loaded → Thread → State
 state_with l thread = record { loaded = l; threads = set (replicate THREADS None) 0 (Some thread); steps = 0 }
@@ -49,7 +49,7 @@ state_with l thread = record { loaded = l; threads = set (replicate THREADS None
 
 -- the events before the first step
 abbrev pub first_events : Loaded → Thread → List Event
-first_events l thread = load_events l.process ++ map (entering 0 0) thread.calls
+first_events l thread = load_events l.modules.process ++ map (entering 0 0) thread.calls
 
 -- the run of what is loaded, by a schedule, up to a number of steps
 abbrev pub run_of : Loaded → ℕ → List (ℕ × ℕ) → ℕ → Course

@@ -66,8 +66,8 @@ call_events p maps steps t thread =
 abbrev pub went : State → ℕ → Loaded → Thread → List Event → Turned → Taken
 went s t l thread events answer = record {
   answer = answer;
-  state = record { loaded = l; threads = set s.threads t (Some (with_calls l.process l.maps thread)); steps = suc s.steps };
-  events = events ++ call_events l.process l.maps (suc s.steps) t thread;
+  state = record { loaded = l; threads = set s.threads t (Some (with_calls l.modules.process l.modules.maps thread)); steps = suc s.steps };
+  events = events ++ call_events l.modules.process l.modules.maps (suc s.steps) t thread;
 }
 
 -- ---- steps after which the thread or the process has ended

@@ -4,7 +4,7 @@ use elf_model::Func;
 use fd_base::{Bytes, Name};
 
 /// Why a run stops.
-#[derive(Clone, Copy, Debug, PartialEq, Eq)]
+#[derive(Clone, Copy, PartialEq, Eq)]
 pub enum Stop {
     /// The lowest byte of a store that is watched.
     Stray(u32),
@@ -23,7 +23,7 @@ pub enum Stop {
 }
 
 /// What a run reports. Each event has a line. `step` is the number of steps that are done.
-#[derive(Debug, Drop)]
+#[derive(Drop)]
 pub enum Event {
     /// A new module.
     Load {

@@ -4,7 +4,7 @@ use fd_base::{Name, Seq};
 use load_model::MemPlan;
 
 /// What a run is asked for.
-#[derive(Debug, Drop)]
+#[derive(Drop)]
 pub struct Job {
     /// How the memory of the process is parted, and the addresses that are listed for modules.
     pub plan: MemPlan,
@@ -19,7 +19,7 @@ pub struct Job {
 }
 
 /// Thread `thread` is to run for up to `count` steps.
-#[derive(Clone, Copy, Debug, PartialEq, Eq)]
+#[derive(Clone, Copy, PartialEq, Eq)]
 pub struct Turn {
     /// The number of the thread, counted from 0.
     pub thread: u32,

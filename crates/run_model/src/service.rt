@@ -22,7 +22,7 @@ pub const OUT_TOO_LONG: u32 = 51;
 pub const REFUSED: u32 = 0xffff_ffff;
 
 /// What a service comes to for its thread.
-#[derive(Debug, Drop)]
+#[derive(Drop)]
 pub enum Served {
     /// It goes on.
     Went,

@@ -4,7 +4,7 @@ use Rattle.std.specs.Prelude.{map, set}
 use Rattle.std.proofs.lemmas.List.{drop_all, take_all}
 use Rattle.std.proofs.lemmas.List.Elements.{All-cons, All-nil}
 use Rattle.run_model.specs.declared.thread.Thread.{Thread}
-use Rattle.run_turn.specs.CallsInProgress.{AreInProgress}
+use Rattle.run_turn.specs.parts.CallsInProgress.{AreInProgress}
 
 abbrev pub emptied : List (Option Thread) → ℕ → List (Option Thread)
 emptied xs n = map (λ place. None) (take n xs) ++ drop n xs

@@ -1,3 +1,4 @@
+pub mod CallsInTurn
 mod EmptiedPlaces
 mod EmptyZips
 pub mod MappedBytes

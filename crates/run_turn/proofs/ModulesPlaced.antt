@@ -31,15 +31,15 @@ ends plan (s ∷ ss) [] small sized all = absurd all
 ends plan (s ∷ ss) (e ∷ es) small sized all =
     All-cons EndsInside e es (entry_ends plan s e small (All-head IsSized s ss sized) all.0) (ends plan ss es small (All-tail IsSized s ss sized) all.1)
 
-map_ends : (l : Loaded) (m : ℕ) (o : Option Object) → object_at l.process m ≡ o → HasModules l → l.plan.memory < 2 ^ 32 → All EndsInside (map_at l.maps m)
+map_ends : (l : Loaded) (m : ℕ) (o : Option Object) → object_at l.modules.process m ≡ o → HasModules l.modules → l.modules.plan.memory < 2 ^ 32 → All EndsInside (map_at l.modules.maps m)
 map_ends l m None none mods small = subst (All EndsInside) (sym (mods.others m none)) (All-nil EndsInside)
 map_ends l m (Some o) live mods small =
     let standing = mods.standing m o live in
-    ends l.plan o.segments (map_at l.maps m) small standing.sound.sized standing.mapped
+    ends l.modules.plan o.segments (map_at l.modules.maps m) small standing.sound.sized standing.mapped
 
 pub consistent_are_placed : ConsistentArePlaced
 consistent_are_placed l h small = record {
   few = omega (arith, h.valid.modules');
   sound = λ m o live. (h.modules'.standing m o live).sound;
-  ends = λ m. map_ends l m (object_at l.process m) refl h.modules' small;
+  ends = λ m. map_ends l m (object_at l.modules.process m) refl h.modules' small;
 }

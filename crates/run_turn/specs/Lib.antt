@@ -1,2 +1,1 @@
-pub mod CallsInProgress
 pub mod parts

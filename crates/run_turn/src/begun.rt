@@ -1,8 +1,9 @@
 //! Calls that begin.
 
-ghost use Rattle.std.specs.Prelude.{◌≡◌};
+ghost use Rattle.std.specs.Prelude.{◌≡◌, IfSome};
 ghost use Rattle.run_model.specs.Places as spec;
 ghost use Rattle.run_turn.specs.parts.PlacedModules.{ArePlaced};
+ghost use Rattle.run_turn.specs.parts.CallsInProgress.{IsInProgress};
 
 use crate::code::{code_at, got_word};
 use a32_machine::Cpu;
@@ -13,7 +14,9 @@ use run_model::{BOUND_CALL, Call};
 /// The call that begins with this cpu: its pc is at a placed entry of a slot, and r9 is the GOT of the entry's module.
 pub fn call_begun(process: &SymbolicProcess, maps: &[MapEntries], cpu: &Cpu) -> Option<Call>
     requires { ArePlaced process.now maps.now }
-    ensures { result ≡ spec.call_begun process.entry.now maps.now cpu.entry.now }
+    ensures value { result ≡ spec.call_begun process.entry.now maps.now cpu.entry.now }
+    ensures progress { IfSome result IsInProgress }
+    ensures none_done { IfSome result (λ call. call.done ≡ 0) }
 {
     let place = code_at(process, maps, cpu.r[15])?;
     let object = process.object_at(place.module)?;

@@ -8,7 +8,7 @@ ghost use Rattle.run_model.specs.declared.thread.Turned.TheVariants as turned;
 ghost use Rattle.run_model.specs.State.{some_lives, thread_at};
 ghost use Rattle.run_model.specs.Turns as spec;
 ghost use Rattle.run_turn.specs.parts.PlacedModules.{ArePlaced};
-ghost use Rattle.run_turn.specs.CallsInProgress.{AreInProgress};
+ghost use Rattle.run_turn.specs.parts.CallsInProgress.{AreInProgress};
 ghost use Rattle.run_turn.specs.parts.Remainder.{IsAt, Left, state_with};
 
 use crate::calls::{Events, follow};
@@ -18,7 +18,7 @@ use run_model::{Event, Served, Stop, Thread, Turned};
 use std::alloc::Global;
 
 /// How a turn ends, and its events.
-#[derive(Debug, Drop)]
+#[derive(Drop)]
 pub struct Settled {
     pub answer: Turned,
     pub events: Events,
@@ -32,7 +32,6 @@ fn some_lives(threads: &[Option<Thread>]) -> bool
 
 /// Moves the calls of a thread on, if it lives.
 fn follow_at(
-    alloc: Global,
     modules: &PlacedModules,
     done: Step,
     threads: &mut [Option<Thread>],
@@ -48,14 +47,13 @@ fn follow_at(
     ensures calls { OnOk result (All AreInProgress threads.new) }
 {
     match &mut threads[done.thread as usize] {
-        Some(thread) => follow(alloc, modules, done, thread, events),
+        Some(thread) => follow(modules, done, thread, events),
         None => Ok(()),
     }
 }
 
 /// After a step of a thread that goes on, with this answer and these events of its own.
 fn went(
-    alloc: Global,
     modules: &PlacedModules,
     threads: &mut [Option<Thread>],
     steps: &mut u32,
@@ -76,7 +74,7 @@ fn went(
         step: *steps,
         thread: t,
     };
-    follow_at(alloc, modules, done, threads, &mut events)?;
+    follow_at(modules, done, threads, &mut events)?;
     Ok(Settled { answer, events })
 }
 
@@ -206,18 +204,18 @@ pub fn settle(
                 answer: Turned::Next,
                 events: Events::new(alloc),
             };
-            went(alloc, modules, threads, steps, t, own)
+            went(modules, threads, steps, t, own)
         }
         Served::Yielded => {
             let own = Settled {
                 answer: Turned::Yield,
                 events: Events::new(alloc),
             };
-            went(alloc, modules, threads, steps, t, own)
+            went(modules, threads, steps, t, own)
         }
         Served::Wrote(bytes) => {
             let own = wrote(alloc, *steps + 1, t, bytes)?;
-            went(alloc, modules, threads, steps, t, own)
+            went(modules, threads, steps, t, own)
         }
         Served::Finished(value) => finished(alloc, threads, steps, t, value),
         Served::Exited(value) => exited(alloc, threads, steps, t, value),

@@ -38,7 +38,7 @@ pub(crate) fn is_same(a: &Name, b: &Name) -> bool
 }
 
 /// The exported names of an object, each with the number of its first definition.
-#[derive(Debug, Drop)]
+#[derive(Drop)]
 pub struct Exports {
     entries: Vec<(Name, u32)>,
 }

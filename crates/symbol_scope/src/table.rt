@@ -8,7 +8,7 @@ use fd_base::{Memory, Name, Names, Seq};
 use std::alloc::Global;
 
 /// What is kept of a module for the search of names.
-#[derive(Debug, Drop)]
+#[derive(Drop)]
 pub struct Table {
     /// Its name.
     pub name: Name,

@@ -25,7 +25,7 @@ pub struct Found {
 }
 
 /// The tables of modules, by their numbers.
-#[derive(Debug, Drop)]
+#[derive(Drop)]
 pub struct Tables {
     slots: Vec<Option<Table>>,
 }

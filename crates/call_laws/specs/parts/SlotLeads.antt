@@ -14,13 +14,13 @@ use Rattle.run_model.specs.Places.{code_at}
 
 -- slot k of live module m, and its pair
 pub record IsSlotOf (l : Loaded) (m k : ℕ) (o : Object) (r : Rel) (slot : SlotPair) : Type 0 where
-  pub live : object_at l.process m ≡ Some o
+  pub live : object_at l.modules.process m ≡ Some o
   pub is_slot : slot_of o k ≡ Some r
-  pub pair : slot_pair_of l.process l.maps m k ≡ Some slot
+  pub pair : slot_pair_of l.modules.process l.modules.maps m k ≡ Some slot
 
 -- The code at the first word of a slot is the function to which the slot leads. Where it leads to none, no code is there.
 pub record SlotsLeadToPlacedCode : Type 0 where
   pub function : (l : Loaded) (m k : ℕ) (o : Object) (r : Rel) (slot : SlotPair) (f : Func) → IsConsistent l → IsSlotOf l m k o r slot
-      → slot_function (linkage_of l.process) m o r ≡ Some f → code_at l.process l.maps slot.code ≡ Some f
+      → slot_function (linkage_of l.modules.process) m o r ≡ Some f → code_at l.modules.process l.modules.maps slot.code ≡ Some f
   pub nothing : (l : Loaded) (m k : ℕ) (o : Object) (r : Rel) (slot : SlotPair) → IsConsistent l → IsSlotOf l m k o r slot
-      → slot_function (linkage_of l.process) m o r ≡ None → code_at l.process l.maps slot.code ≡ None
+      → slot_function (linkage_of l.modules.process) m o r ≡ None → code_at l.modules.process l.modules.maps slot.code ≡ None

@@ -23,14 +23,14 @@ pub record HoldsEntry (m : GuestMemory) (entry got : ℕ) (slot : SlotPair) : Ty
 
 -- Each clear entry of a live module is that of a call, where the memory ends below 2^32.
 pub record CallsAreHeld : Type 0 where
-  pub slots : (l : Loaded) (m v k : ℕ) (o : Object) → object_at l.process m ≡ Some o → IsPltEntry o v k
-      → (slot : SlotPair) × (slot_pair_of l.process l.maps m k ≡ Some slot)
-  pub held : (l : Loaded) (m v k : ℕ) (o : Object) (slot : SlotPair) → IsConsistent l → l.plan.memory < 2 ^ 32 → object_at l.process m ≡ Some o
-      → IsPltEntry o v k → IsClear o v k → slot_pair_of l.process l.maps m k ≡ Some slot
-      → HoldsEntry l.memory (placed (map_at l.maps m) v) (placed (map_at l.maps m) o.got) slot
+  pub slots : (l : Loaded) (m v k : ℕ) (o : Object) → object_at l.modules.process m ≡ Some o → IsPltEntry o v k
+      → (slot : SlotPair) × (slot_pair_of l.modules.process l.modules.maps m k ≡ Some slot)
+  pub held : (l : Loaded) (m v k : ℕ) (o : Object) (slot : SlotPair) → IsConsistent l → l.modules.plan.memory < 2 ^ 32 → object_at l.modules.process m ≡ Some o
+      → IsPltEntry o v k → IsClear o v k → slot_pair_of l.modules.process l.modules.maps m k ≡ Some slot
+      → HoldsEntry l.memory (placed (map_at l.modules.maps m) v) (placed (map_at l.modules.maps m) o.got) slot
 
 -- r9 names the module of a call: two live modules with one placed GOT are one
 abbrev pub GotsNameModules : Type 0
 GotsNameModules =
-    (l : Loaded) (m n : ℕ) (o q : Object) → IsConsistent l → object_at l.process m ≡ Some o → object_at l.process n ≡ Some q
-    → placed (map_at l.maps m) o.got ≡ placed (map_at l.maps n) q.got → m ≡ n
+    (l : Loaded) (m n : ℕ) (o q : Object) → IsConsistent l → object_at l.modules.process m ≡ Some o → object_at l.modules.process n ≡ Some q
+    → placed (map_at l.modules.maps m) o.got ≡ placed (map_at l.modules.maps n) q.got → m ≡ n

@@ -13,9 +13,9 @@ use Rattle.call_laws.specs.TakenTurns.{threads_of}
 
 -- A turn of one thread: modules stay where they are, watched bytes and all that isn't Data stay, and so do other threads.
 pub record IsTurnOf (t : ℕ) (old new : State) : Type 0 where
-  pub plan : new.loaded.plan ≡ old.loaded.plan
-  pub process : new.loaded.process ≡ old.loaded.process
-  pub maps : new.loaded.maps ≡ old.loaded.maps
+  pub plan : new.loaded.modules.plan ≡ old.loaded.modules.plan
+  pub process : new.loaded.modules.process ≡ old.loaded.modules.process
+  pub maps : new.loaded.modules.maps ≡ old.loaded.modules.maps
   pub keeps : Keeps old.loaded.memory new.loaded.memory
   pub others : (u : ℕ) → u ≢ t → thread_at new.threads u ≡ thread_at old.threads u
 

@@ -9,14 +9,23 @@ use std::test::Fail;
 
 /// Text at link address 0 (0x400 bytes) and data at 0x10000 (0x100 bytes) with the GOT at 0x10000 and, behind its
 /// header, these words and then the dynamic section. The file's bytes of the data stand at an offset.
-pub fn object(alloc: Global, offset: u32, tables: &[u32], dynamic: &[u32]) -> Result<Vec<u8>, Fail>
+fn object(alloc: Global, offset: u32, tables: &[u32], dynamic: &[u32]) -> Result<Vec<u8>, Fail>
+    requires tables { length tables.now < 64 }
+    requires dynamic { length dynamic.now < 64 }
+    requires offset { offset < 4096 }
+{
+    let mut image = Image::new(alloc);
+    put_object(&mut image, offset, tables, dynamic)?;
+    Ok(image.bytes)
+}
+
+fn put_object(image: &mut Image, offset: u32, tables: &[u32], dynamic: &[u32]) -> Result<(), Fail>
     requires tables { length tables.now < 64 }
     requires dynamic { length dynamic.now < 64 }
     requires offset { offset < 4096 }
 {
     let at = 12 + 4 * tables.len() as u32;
     let size = 4 * dynamic.len() as u32;
-    let mut image = Image::new(alloc);
     image.header(0, 3)?;
     image.segment(1, [0, 0], [0, 0x400], 5)?;
     image.segment(1, [offset, 0x1_0000], [at + size, 0x100], 6)?;
@@ -26,22 +35,41 @@ pub fn object(alloc: Global, offset: u32, tables: &[u32], dynamic: &[u32]) -> Re
     }
     image.words(&[0, 0, 0])?;
     image.words(tables)?;
-    image.words(dynamic)?;
-    Ok(image.bytes)
+    image.words(dynamic)
 }
 
-/// One slot at 0x1000c on symbol 0, with the file word 0x300.
-fn slotted(alloc: Global) -> Result<Vec<u8>, Fail> {
-    object(
+/// Adds such an object, with its bytes of the data behind its headers.
+fn add_object(
+    store: &mut MemStore,
+    alloc: Global,
+    name: &[u8],
+    tables: &[u32],
+    dynamic: &[u32],
+) -> Result<(), Fail>
+    requires tables { length tables.now < 64 }
+    requires dynamic { length dynamic.now < 64 }
+{
+    let bytes = object(alloc, 148, tables, dynamic)?;
+    add(store, alloc, name, &bytes)
+}
+
+/// An object without slots, one with a slot at 0x1000c on symbol 0, with the file word 0x300, and one whose slot leads to no
+/// address.
+fn add_slotted(store: &mut MemStore, alloc: Global) -> Result<(), Fail> {
+    let dynamic = [3, 0x1_0000, 23, 0x1_0014, 2, 8, 20, 17, 0, 0];
+    add_object(store, alloc, b"f.so", &[], &[3, 0x1_0000, 0, 0])?;
+    add_object(store, alloc, b"e.so", &[0x300, 0, 0x1_000c, 164], &dynamic)?;
+    add_object(
+        store,
         alloc,
-        148,
-        &[0x300, 0, 0x1_000c, 164],
-        &[3, 0x1_0000, 23, 0x1_0014, 2, 8, 20, 17, 0, 0],
+        b"lost.so",
+        &[0x1_0000, 0, 0x1_000c, 164],
+        &dynamic,
     )
 }
 
-/// The slot on symbol 1, a local function at 0x300, and with the file word 0.
-fn slotted_on_symbol(alloc: Global) -> Result<Vec<u8>, Fail> {
+/// One with the slot on symbol 1, a local function at 0x300, and with the file word 0.
+fn add_slotted_on_symbol(store: &mut MemStore, alloc: Global) -> Result<(), Fail> {
     let tables = [
         0, 0, 0x1_000c, 0x1a4, // the slot and its relocation
         1, 2, 1, 0, 0, // the hash table
@@ -52,12 +80,17 @@ fn slotted_on_symbol(alloc: Global) -> Result<Vec<u8>, Fail> {
         3, 0x1_0000, 23, 0x1_0014, 2, 8, 20, 17, // the GOT and the slots
         4, 0x1_001c, 6, 0x1_0030, 5, 0x1_0050, 10, 4, 0, 0, // symbols and strings
     ];
-    object(alloc, 148, &tables, &dynamic)
+    add_object(store, alloc, b"local.so", &tables, &dynamic)
 }
 
 /// A library as a linker writes it, whose text is a function `foo`: `mov r0, #7` and `bx lr`.
-fn library(alloc: Global) -> Result<Vec<u8>, Fail> {
+fn add_library(store: &mut MemStore, alloc: Global) -> Result<(), Fail> {
     let mut image = Image::new(alloc);
+    put_library(&mut image)?;
+    add(store, alloc, b"foo.so", &image.bytes)
+}
+
+fn put_library(image: &mut Image) -> Result<(), Fail> {
     image.header(0, 4)?;
     image.segment(1, [192, 0], [8, 8], 5)?;
     image.segment(1, [208, 0x1_0000], [12, 12], 6)?;
@@ -70,13 +103,17 @@ fn library(alloc: Global) -> Result<Vec<u8>, Fail> {
     image.words(&[0, 0, 0, 0, 1, 0, 0, 0x1_0012])?;
     image.bytes.extend_from_slice(b"\0foo\0foo.so\0")?;
     image.words(&[14, 5, 4, 0x1_1000, 5, 0x1_1038, 10, 12])?;
-    image.words(&[6, 0x1_1018, 11, 16, 3, 0x1_0000, 0, 0])?;
-    Ok(image.bytes)
+    image.words(&[6, 0x1_1018, 11, 16, 3, 0x1_0000, 0, 0])
 }
 
 /// An object that needs the library of a name, with a slot at 0x1000c on symbol 1, an undefined function. The strings
 /// are a zero byte, the function's name and the library's.
-fn needing(alloc: Global, strings: [u32; 3]) -> Result<Vec<u8>, Fail> {
+fn add_needing(
+    store: &mut MemStore,
+    alloc: Global,
+    name: &[u8],
+    strings: [u32; 3],
+) -> Result<(), Fail> {
     let [function, library, end] = strings;
     let tables = [
         0, 0, 0x1_000c, 0x1a4, // the slot and its relocation
@@ -88,11 +125,11 @@ fn needing(alloc: Global, strings: [u32; 3]) -> Result<Vec<u8>, Fail> {
         1, 5, 3, 0x1_0000, 23, 0x1_0014, 2, 8, 20, 17, // the library, the GOT and the slots
         4, 0x1_001c, 6, 0x1_0030, 5, 0x1_0050, 10, 12, 0, 0, // symbols and strings
     ];
-    object(alloc, 148, &tables, &dynamic)
+    add_object(store, alloc, name, &tables, &dynamic)
 }
 
-/// A slot at 0x1000c on symbol 1, an object of the data.
-fn slotted_on_data(alloc: Global) -> Result<Vec<u8>, Fail> {
+/// One with the slot on symbol 1, an object of the data.
+fn add_slotted_on_data(store: &mut MemStore, alloc: Global) -> Result<(), Fail> {
     let tables = [
         0,
         0,
@@ -118,11 +155,17 @@ fn slotted_on_data(alloc: Global) -> Result<Vec<u8>, Fail> {
         3, 0x1_0000, 23, 0x1_0014, 2, 8, 20, 17, // the GOT and the slots
         4, 0x1_001c, 6, 0x1_0030, 5, 0x1_0050, 10, 8, 0, 0, // symbols and strings
     ];
-    object(alloc, 148, &tables, &dynamic)
+    add_object(store, alloc, b"data.so", &tables, &dynamic)
 }
 
 /// A library that exports a function `foo` at a link address, by the last word of its symbol.
-fn exporting(alloc: Global, value: u32, place: u32) -> Result<Vec<u8>, Fail> {
+fn add_exporting(
+    store: &mut MemStore,
+    alloc: Global,
+    name: &[u8],
+    value: u32,
+    place: u32,
+) -> Result<(), Fail> {
     let tables = [
         1,
         2,
@@ -143,11 +186,11 @@ fn exporting(alloc: Global, value: u32, place: u32) -> Result<Vec<u8>, Fail> {
     let dynamic = [
         3, 0x1_0000, 4, 0x1_000c, 6, 0x1_0020, 5, 0x1_0040, 10, 8, 0, 0,
     ];
-    object(alloc, 148, &tables, &dynamic)
+    add_object(store, alloc, name, &tables, &dynamic)
 }
 
 /// An object that needs `weak.so` and then `strong.so`, with a slot at 0x1000c on an undefined function `foo`.
-fn needing_two(alloc: Global) -> Result<Vec<u8>, Fail> {
+fn add_needing_two(store: &mut MemStore, alloc: Global) -> Result<(), Fail> {
     let tables = [
         0,
         0,
@@ -177,11 +220,11 @@ fn needing_two(alloc: Global) -> Result<Vec<u8>, Fail> {
         1, 5, 1, 13, 3, 0x1_0000, 23, 0x1_0014, 2, 8, 20, 17, // the libraries, the GOT and the slots
         4, 0x1_001c, 6, 0x1_0030, 5, 0x1_0050, 10, 24, 0, 0, // symbols and strings
     ];
-    object(alloc, 148, &tables, &dynamic)
+    add_object(store, alloc, b"two.so", &tables, &dynamic)
 }
 
 /// An object with the addresses of the descriptors of two functions of its own.
-fn asking(alloc: Global) -> Result<Vec<u8>, Fail> {
+fn add_asking(store: &mut MemStore, alloc: Global) -> Result<(), Fail> {
     let tables = [
         0,
         0,
@@ -215,7 +258,7 @@ fn asking(alloc: Global) -> Result<Vec<u8>, Fail> {
         3, 0x1_0000, 17, 0x1_0014, 18, 16, 19, 8, // the GOT and the relocations
         4, 0x1_0024, 6, 0x1_003c, 5, 0x1_006c, 10, 12, 0, 0, // symbols and strings
     ];
-    object(alloc, 148, &tables, &dynamic)
+    add_object(store, alloc, b"asks.so", &tables, &dynamic)
 }
 
 /// The digits of a number below 100.
@@ -232,32 +275,35 @@ pub fn add_chain(store: &mut MemStore, alloc: Global) -> Result<(), Fail> {
         let [next_tens, next_ones] = digits(i + 1);
         let needed = u32::from_le_bytes([0, b'c', next_tens, next_ones]);
         let dynamic = [1, 1, 3, 0x1_0000, 5, 0x1_000c, 10, 8, 0, 0];
-        let bytes = object(alloc, 148, &[needed, 0x006f_732e], &dynamic)?;
-        add(store, alloc, &[b'c', tens, ones, b'.', b's', b'o'], &bytes)?;
+        let name = [b'c', tens, ones, b'.', b's', b'o'];
+        add_object(store, alloc, &name, &[needed, 0x006f_732e], &dynamic)?;
     }
     Ok(())
 }
 
-/// Objects whose loads are refused after their files are read, or that need others.
+/// Objects that need others, and those that they need.
 fn add_linked(store: &mut MemStore, alloc: Global) -> Result<(), Fail> {
-    let data = [3, 0x1_0000, 23, 0x1_0014, 2, 8, 20, 17, 0, 0];
-    let lost = object(alloc, 148, &[0x1_0000, 0, 0x1_000c, 164], &data)?;
-    add(store, alloc, b"lost.so", &lost)?;
-    add(store, alloc, b"data.so", &slotted_on_data(alloc)?)?;
-    add(store, alloc, b"asks.so", &asking(alloc)?)?;
-    add(store, alloc, b"two.so", &needing_two(alloc)?)?;
-    add(
-        store,
-        alloc,
-        b"weak.so",
-        &exporting(alloc, 0x300, 0x1_0022)?,
-    )?;
-    add(
-        store,
-        alloc,
-        b"strong.so",
-        &exporting(alloc, 0x340, 0x1_0012)?,
-    )
+    for (name, strings) in [
+        (
+            b"main.so".as_slice(),
+            [0x6f6f_6600, 0x6f6f_6600, 0x006f_732e],
+        ),
+        (b"gone.so", [0x6f6f_6600, 0x6f6f_6600, 0x0078_782e]),
+        (b"bar.so", [0x7261_6200, 0x6f6f_6600, 0x006f_732e]),
+    ] {
+        add_needing(store, alloc, name, strings)?;
+    }
+    add_needing_two(store, alloc)?;
+    add_exporting(store, alloc, b"weak.so", 0x300, 0x1_0022)?;
+    add_exporting(store, alloc, b"strong.so", 0x340, 0x1_0012)
+}
+
+/// Files that are no objects: of no bytes, of 51, and with relocations that have addends of their own at offset 496.
+fn add_refused(store: &mut MemStore, alloc: Global) -> Result<(), Fail> {
+    let rela = object(alloc, 484, &[], &[7, 0, 0, 0])?;
+    add(store, alloc, b"rela.so", &rela)?;
+    add(store, alloc, b"empty.so", &[])?;
+    add(store, alloc, b"short.so", &[0; 51])
 }
 
 /// Jobs, and texts that are none: with another first line, a memory of no whole pages and no program.
@@ -289,46 +335,27 @@ const JOBS: [(&[u8], &[u8]); 10] = [
     ),
 ];
 
-/// A folder of objects and jobs, and of files that are none: of no bytes, of 51, and with relocations that have addends of
-/// their own at offset 496.
+fn add_jobs(store: &mut MemStore, alloc: Global) -> Result<(), Fail> {
+    for (name, text) in JOBS {
+        add(store, alloc, name, text)?;
+    }
+    Ok(())
+}
+
+/// A folder of objects and jobs, and of files that are none.
 pub fn folder(alloc: Global) -> Result<MemStore, Fail> {
     let mut store = MemStore::new(alloc);
-    add(
-        &mut store,
-        alloc,
-        b"f.so",
-        &object(alloc, 148, &[], &[3, 0x1_0000, 0, 0])?,
-    )?;
-    add(&mut store, alloc, b"e.so", &slotted(alloc)?)?;
-    add(&mut store, alloc, b"local.so", &slotted_on_symbol(alloc)?)?;
-    add(&mut store, alloc, b"foo.so", &library(alloc)?)?;
-    for (name, strings) in [
-        (
-            b"main.so".as_slice(),
-            [0x6f6f_6600, 0x6f6f_6600, 0x006f_732e],
-        ),
-        (
-            b"gone.so".as_slice(),
-            [0x6f6f_6600, 0x6f6f_6600, 0x0078_782e],
-        ),
-        (
-            b"bar.so".as_slice(),
-            [0x7261_6200, 0x6f6f_6600, 0x006f_732e],
-        ),
-    ] {
-        add(&mut store, alloc, name, &needing(alloc, strings)?)?;
-    }
-    add_linked(&mut store, alloc)?;
-    for (name, text) in JOBS {
-        add(&mut store, alloc, name, text)?;
-    }
-    add(
-        &mut store,
-        alloc,
-        b"rela.so",
-        &object(alloc, 484, &[], &[7, 0, 0, 0])?,
-    )?;
-    add(&mut store, alloc, b"empty.so", &[])?;
-    add(&mut store, alloc, b"short.so", &[0; 51])?;
+    fill(&mut store, alloc)?;
     Ok(store)
+}
+
+fn fill(store: &mut MemStore, alloc: Global) -> Result<(), Fail> {
+    add_slotted(store, alloc)?;
+    add_slotted_on_symbol(store, alloc)?;
+    add_slotted_on_data(store, alloc)?;
+    add_asking(store, alloc)?;
+    add_library(store, alloc)?;
+    add_linked(store, alloc)?;
+    add_refused(store, alloc)?;
+    add_jobs(store, alloc)
 }

@@ -20,10 +20,25 @@ fn entered(
     requires tables { length tables.now < 64 }
     requires dynamic { length dynamic.now < 64 }
 {
+    let mut image = Image::new(alloc);
+    put_entered(&mut image, entry, code, tables, dynamic)?;
+    Ok(image.bytes)
+}
+
+fn put_entered(
+    image: &mut Image,
+    entry: u32,
+    code: &[u32],
+    tables: &[u32],
+    dynamic: &[u32],
+) -> Result<(), Fail>
+    requires code { length code.now < 64 }
+    requires tables { length tables.now < 64 }
+    requires dynamic { length dynamic.now < 64 }
+{
     let text = 4 * code.len() as u32;
     let at = 12 + 4 * tables.len() as u32;
     let size = 4 * dynamic.len() as u32;
-    let mut image = Image::new(alloc);
     image.header(entry, 3)?;
     image.segment(1, [148, 0], [text, text], 5)?;
     image.segment(1, [148 + text, 0x1_0000], [at + size, at + size], 6)?;
@@ -31,8 +46,21 @@ fn entered(
     image.words(code)?;
     image.words(&[0, 0, 0])?;
     image.words(tables)?;
-    image.words(dynamic)?;
-    Ok(image.bytes)
+    image.words(dynamic)
+}
+
+/// Adds such an object whose data is the header of the GOT and this dynamic section.
+fn add_plain(
+    store: &mut MemStore,
+    alloc: Global,
+    name: &[u8],
+    entry: u32,
+    code: &[u32],
+) -> Result<(), Fail>
+    requires { length code.now < 64 }
+{
+    let bytes = entered(alloc, entry, code, &[], &[3, 0x1_0000, 0, 0])?;
+    add(store, alloc, name, &bytes)
 }
 
 /// A call of the entry behind it, the end of the process, and the entry of the slot at 0x1000c.
@@ -52,7 +80,13 @@ const CALLING: [u32; 12] = [
 ];
 
 /// A program that calls a function `foo` through its slot. The last word of the symbol tells how it is bound.
-fn calling(alloc: Global, place: u32, dynamic: &[u32]) -> Result<Vec<u8>, Fail>
+fn add_calling(
+    store: &mut MemStore,
+    alloc: Global,
+    name: &[u8],
+    place: u32,
+    dynamic: &[u32],
+) -> Result<(), Fail>
     requires { length dynamic.now < 64 }
 {
     let tables = [
@@ -77,11 +111,12 @@ fn calling(alloc: Global, place: u32, dynamic: &[u32]) -> Result<Vec<u8>, Fail>
         0x6f6f_6600,
         0x006f_732e, // the strings
     ];
-    entered(alloc, 0, &CALLING, &tables, dynamic)
+    let bytes = entered(alloc, 0, &CALLING, &tables, dynamic)?;
+    add(store, alloc, name, &bytes)
 }
 
 /// A library whose text is a function `foo`: `mov r0, #7` and `bx lr`.
-fn returning(alloc: Global) -> Result<Vec<u8>, Fail> {
+fn add_returning(store: &mut MemStore, alloc: Global) -> Result<(), Fail> {
     let tables = [
         1,
         2,
@@ -102,13 +137,19 @@ fn returning(alloc: Global) -> Result<Vec<u8>, Fail> {
     let dynamic = [
         3, 0x1_0000, 4, 0x1_000c, 6, 0x1_0020, 5, 0x1_0040, 10, 8, 0, 0,
     ];
-    entered(alloc, 0, &[0xe3a0_0007, 0xe12f_ff1e], &tables, &dynamic)
+    let bytes = entered(alloc, 0, &[0xe3a0_0007, 0xe12f_ff1e], &tables, &dynamic)?;
+    add(store, alloc, b"foo.so", &bytes)
 }
 
 /// A program with all that is passed over: headers of the interpreter, of the program headers and of the stack, an alignment
 /// of 0x10000, flags of the calling standard, a section, a word for debuggers, and a function that should be called first.
-fn tolerated(alloc: Global) -> Result<Vec<u8>, Fail> {
+fn add_tolerated(store: &mut MemStore, alloc: Global) -> Result<(), Fail> {
     let mut image = Image::new(alloc);
+    put_tolerated(&mut image)?;
+    add(store, alloc, b"tolerated", &image.bytes)
+}
+
+fn put_tolerated(image: &mut Image) -> Result<(), Fail> {
     image
         .bytes
         .extend_from_slice(b"\x7fELF\x01\x01\x01\x41\0\0\0\0\0\0\0\0")?;
@@ -123,8 +164,7 @@ fn tolerated(alloc: Global) -> Result<Vec<u8>, Fail> {
     image.segment(0x6474_e551, [0, 0], [0, 0], 6)?;
     image.words(&[0, 0xef00_0000, 0, 0, 0])?;
     image.words(&[3, 0x1_0000, 21, 0, 12, 0, 0, 0])?;
-    image.words(&[0; 10])?;
-    Ok(image.bytes)
+    image.words(&[0; 10])
 }
 
 /// Programs by the words of their code, which call nothing.
@@ -160,13 +200,22 @@ fn add_job(
     lines: &[u8],
 ) -> Result<(), Fail> {
     let mut text = Vec::new(alloc);
-    text.extend_from_slice(b"fdpic-job 1\nprogram ")?;
-    text.extend_from_slice(program)?;
-    text.extend_from_slice(b"\nplace ")?;
-    text.extend_from_slice(program)?;
-    text.extend_from_slice(b" 0x20000 0x30000\n")?;
-    text.extend_from_slice(lines)?;
+    put_job(&mut text, program, lines)?;
     add(store, alloc, name, &text)
+}
+
+fn put_job(text: &mut Vec<u8>, program: &[u8], lines: &[u8]) -> Result<(), Fail> {
+    for part in [
+        b"fdpic-job 1\nprogram ".as_slice(),
+        program,
+        b"\nplace ",
+        program,
+        b" 0x20000 0x30000\n",
+        lines,
+    ] {
+        text.extend_from_slice(part)?;
+    }
+    Ok(())
 }
 
 /// Jobs of programs by their further lines, under names of their own.
@@ -215,48 +264,52 @@ fn add_programs(store: &mut MemStore, alloc: Global) -> Result<(), Fail> {
         3, 0x1_0000, 23, 0x1_0014, 2, 8, 20, 17, 4, 0x1_001c, 6, 0x1_0030, 5, 0x1_0050, 10, 12, 0,
         0,
     ];
-    let plain = [3, 0x1_0000, 0, 0];
     let ending = [0xef00_0000];
-    add(store, alloc, b"prog", &calling(alloc, 0x12, &needing)?)?;
-    add(store, alloc, b"weak", &calling(alloc, 0x22, &alone)?)?;
-    add(store, alloc, b"strong", &calling(alloc, 0x12, &alone)?)?;
-    add(store, alloc, b"foo.so", &returning(alloc)?)?;
-    add(store, alloc, b"tolerated", &tolerated(alloc)?)?;
-    let data = entered(alloc, 0x1_0000, &ending, &[], &plain)?;
-    add(store, alloc, b"entered.data", &data)?;
-    let skewed = entered(alloc, 2, &ending, &[], &plain)?;
-    add(store, alloc, b"entered.skewed", &skewed)
+    add_calling(store, alloc, b"prog", 0x12, &needing)?;
+    add_calling(store, alloc, b"weak", 0x22, &alone)?;
+    add_calling(store, alloc, b"strong", 0x12, &alone)?;
+    add_returning(store, alloc)?;
+    add_tolerated(store, alloc)?;
+    add_plain(store, alloc, b"entered.data", 0x1_0000, &ending)?;
+    add_plain(store, alloc, b"entered.skewed", 2, &ending)
+}
+
+fn add_jobs(store: &mut MemStore, alloc: Global) -> Result<(), Fail> {
+    for (name, program, lines) in JOBS {
+        add_job(store, alloc, program, name, lines)?;
+    }
+    for (name, text) in NO_JOBS {
+        add(store, alloc, name, text)?;
+    }
+    Ok(())
 }
 
 /// A folder of programs, libraries and jobs.
 pub fn folder(alloc: Global) -> Result<MemStore, Fail> {
     let mut store = MemStore::new(alloc);
     add_programs(&mut store, alloc)?;
-    for (name, program, lines) in JOBS {
-        add_job(&mut store, alloc, program, name, lines)?;
-    }
-    for (name, text) in NO_JOBS {
-        add(&mut store, alloc, name, text)?;
-    }
+    add_jobs(&mut store, alloc)?;
     Ok(store)
+}
+
+fn add_plain_job(store: &mut MemStore, alloc: Global, program: &[u8]) -> Result<(), Fail> {
+    let mut name = Vec::from_slice(alloc, program)?;
+    name.extend_from_slice(b".job")?;
+    let lines = b"mode eager\nsteps 1000\n";
+    add_job(store, alloc, program, &name, lines)
+}
+
+fn add_all_plain(store: &mut MemStore, alloc: Global) -> Result<(), Fail> {
+    for (program, code) in PLAIN {
+        add_plain(store, alloc, program, 0, code)?;
+        add_plain_job(store, alloc, program)?;
+    }
+    Ok(())
 }
 
 /// A folder of the programs that call nothing. The job of each has the program's name, and `.job` behind it.
 pub fn plain_folder(alloc: Global) -> Result<MemStore, Fail> {
     let mut store = MemStore::new(alloc);
-    for (program, code) in PLAIN {
-        let bytes = entered(alloc, 0, code, &[], &[3, 0x1_0000, 0, 0])?;
-        add(&mut store, alloc, program, &bytes)?;
-        let mut name = Vec::new(alloc);
-        name.extend_from_slice(program)?;
-        name.extend_from_slice(b".job")?;
-        add_job(
-            &mut store,
-            alloc,
-            program,
-            &name,
-            b"mode eager\nsteps 1000\n",
-        )?;
-    }
+    add_all_plain(&mut store, alloc)?;
     Ok(store)
 }

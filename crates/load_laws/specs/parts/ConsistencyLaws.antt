@@ -1,15 +1,21 @@
--- What holds of a loader after a load.
+-- What holds of a new loader, and of a loader after a load.
 use Rattle.std.specs.Prelude.{ℕ, Bool, List, Option, All}
 use Rattle.fd_base.specs.Fetched.{Files}
+use Rattle.load_model.specs.declared.plan.MemPlan.{MemPlan}
 use Rattle.load_process.specs.parts.TakenObjects.{IsTaken}
 use Rattle.load_state.specs.declared.plan.GroupPlan.{GroupPlan}
 use Rattle.load_state.specs.Accepted.{IsPlan}
 use Rattle.load_state.specs.Committed.{IsCommitted}
 use Rattle.load_state.specs.Consistent.{IsConsistent}
 use Rattle.load_state.specs.Loaded.{Loaded}
+use Rattle.load_state.specs.ProgramLoad.{IsNew}
+
+-- a loader that has loaded nothing is consistent
+abbrev pub NewIsConsistent : Type 0
+NewIsConsistent = (plan : MemPlan) (l : Loaded) → IsNew plan l → IsConsistent l
 
 -- a consistent loader stays so when a plan of its own is committed
 abbrev pub LoadsKeepConsistent : Type 0
 LoadsKeepConsistent =
     (l new : Loaded) (files : Option Files) (root : List ℕ) (asked : Bool) (plan : GroupPlan) → IsConsistent l
-    → IsPlan l files root asked plan → All (λ j. IsTaken j.object) plan.joining → IsCommitted l plan new → IsConsistent new
+    → IsPlan l.modules files root asked plan → All (λ j. IsTaken j.object) plan.joining → IsCommitted l plan new → IsConsistent new

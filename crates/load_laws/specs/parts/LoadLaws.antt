@@ -10,14 +10,14 @@ use Rattle.load_model.specs.Descriptors.{descriptors_after}
 use Rattle.func_desc.specs.Pool.{free_slots}
 use Rattle.load_state.specs.Accepted.{all_items, maps_after, CanBeFilled, wanted_by, adopted_by, given_by}
 use Rattle.load_state.specs.Consistent.{HasModules, HasRanges}
-use Rattle.load_state.specs.Loaded.{Loaded, pool_of}
+use Rattle.load_state.specs.Loaded.{LoadedModules, pool_of}
 use Rattle.placement.specs.Space.{all_held}
 use Rattle.load_laws.specs.parts.Premises.{HaveOwnNumbers, HasFreeNumber, IsExtended}
 
 -- what is held after a load
 abbrev pub RangesStay : Type 0
 RangesStay =
-    (l new : Loaded) (joining : List Joining) (addrs : List ℕ) → HasModules l → HasRanges l
+    (l new : LoadedModules) (joining : List Joining) (addrs : List ℕ) → HasModules l → HasRanges l
     → HaveOwnNumbers joining → All (HasFreeNumber l.process) joining
     → Placed (low_of l.plan) (high_of l.plan) l.held (all_items l.plan.places joining) addrs
     → new.maps ≡ maps_after l.maps joining addrs → new.held ≡ all_held (all_items l.plan.places joining) addrs l.held
@@ -26,7 +26,7 @@ RangesStay =
 -- the modules after a load
 abbrev pub ModulesStay : Type 0
 ModulesStay =
-    (l new : Loaded) (joining : List Joining) (scope addrs : List ℕ) (adopted given : List (Func × ℕ)) → HasModules l → IsExtended l new joining scope
+    (l new : LoadedModules) (joining : List Joining) (scope addrs : List ℕ) (adopted given : List (Func × ℕ)) → HasModules l → IsExtended l new joining scope
     → HaveOwnNumbers joining → All (HasFreeNumber l.process) joining → All (λ j. IsSound j.object) joining
     → CanBeFilled l joining scope → length (wanted_by l joining scope) ≤ length (free_slots (pool_of l.plan l.addrs))
     → Placed (low_of l.plan) (high_of l.plan) l.held (all_items l.plan.places joining) addrs

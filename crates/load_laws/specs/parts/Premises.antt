@@ -9,7 +9,7 @@ use Rattle.load_model.specs.Linkage.{linkage_of}
 use Rattle.load_model.specs.Process.{object_at}
 use Rattle.load_model.specs.Sites.{site_value}
 use Rattle.load_state.specs.Accepted.{linkage_for}
-use Rattle.load_state.specs.Loaded.{Loaded}
+use Rattle.load_state.specs.Loaded.{LoadedModules}
 
 -- no two have one number
 abbrev pub HaveOwnNumbers : List Joining → Type 0
@@ -21,7 +21,7 @@ abbrev pub HasFreeNumber : SymbolicProcess → Joining → Type 0
 HasFreeNumber p j = (j.number < MAX_MODULES) × (object_at p j.number ≡ None)
 
 -- A load adds modules and leaves the others: each of these refers to what it did.
-pub record IsExtended (l new : Loaded) (joining : List Joining) (scope : List ℕ) : Type 0 where
+pub record IsExtended (l new : LoadedModules) (joining : List Joining) (scope : List ℕ) : Type 0 where
   pub linkage' : linkage_of new.process ≡ linkage_for l joining scope
   pub old : (m : ℕ) (o : Object) → object_at l.process m ≡ Some o
       → (object_at new.process m ≡ Some o) × ((r : Rel) → site_value (linkage_of new.process) m o r ≡ site_value (linkage_of l.process) m o r)

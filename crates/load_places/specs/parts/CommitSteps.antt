@@ -6,10 +6,10 @@ use Rattle.placement.specs.Space.{all_held}
 use Rattle.load_model.specs.Descriptors.{descriptors_after}
 use Rattle.load_model.specs.Joined.{process_after}
 use Rattle.load_state.specs.declared.plan.GroupPlan.{GroupPlan}
-use Rattle.load_state.specs.Loaded.{Loaded}
+use Rattle.load_state.specs.Loaded.{LoadedModules}
 
 -- all but the memory is what it is after the load
-pub record IsEntered (old : Loaded) (plan : GroupPlan) (new : Loaded) : Type 0 where
+pub record IsEntered (old : LoadedModules) (plan : GroupPlan) (new : LoadedModules) : Type 0 where
   pub plan' : new.plan ≡ old.plan
   pub process' : new.process ≡ process_after old.process plan.joining plan.scope plan.global
   pub maps' : new.maps ≡ plan.maps

@@ -11,7 +11,7 @@ use Rattle.load_state.specs.declared.plan.GroupPlan.{GroupPlan}
 use Rattle.load_state.specs.Accepted.{IsPlan}
 use Rattle.load_state.specs.Committed.{IsCommitted}
 use Rattle.load_state.specs.Consistent.{IsConsistent, HasModules}
-use Rattle.load_state.specs.Loaded.{Loaded}
+use Rattle.load_state.specs.Loaded.{Loaded, LoadedModules}
 use Rattle.load_process.specs.parts.TakenObjects.{IsTaken}
 use Rattle.load_places.specs.parts.CommitSteps.{IsEntered}
 
@@ -19,7 +19,7 @@ use Rattle.load_places.specs.parts.CommitSteps.{IsEntered}
 abbrev pub OfPlans : (Loaded → GroupPlan → Type 0) → Type 0
 OfPlans P =
     (l : Loaded) (files : Option Files) (root : List ℕ) (asked : Bool) (plan : GroupPlan) → IsConsistent l
-    → IsPlan l files root asked plan → All (λ j. IsTaken j.object) plan.joining → P l plan
+    → IsPlan l.modules files root asked plan → All (λ j. IsTaken j.object) plan.joining → P l plan
 
 -- its new modules can be placed
 abbrev pub PlansArePlaceable : Type 0
@@ -35,12 +35,12 @@ GivenSlotsHaveRoom = OfPlans HasSlotsApart
 
 -- each placed segment ends below 2^32, where the memory does
 pub record MapsEnd : Type 0 where
-  pub old : (l : Loaded) → HasModules l → l.plan.memory < 2 ^ 32 → All (All EndsBelow) l.maps
-  pub new : OfPlans (λ l plan. l.plan.memory < 2 ^ 32 → All (All EndsBelow) plan.maps)
+  pub old : (l : LoadedModules) → HasModules l → l.plan.memory < 2 ^ 32 → All (All EndsBelow) l.maps
+  pub new : OfPlans (λ l plan. l.modules.plan.memory < 2 ^ 32 → All (All EndsBelow) plan.maps)
 
 -- the steps of a commit do what a load does
 abbrev pub StepsCommit : Type 0
 StepsCommit =
-    OfPlans (λ l plan. (new : Loaded) (between : GuestMemory) → IsEntered l plan new
+    OfPlans (λ l plan. (new : Loaded) (between : GuestMemory) → IsEntered l.modules plan new.modules
     → HasModulesPut plan.joining plan.maps plan.parts l.memory between
-    → HasDescriptorsPut new.process plan.maps plan.given between new.memory → IsCommitted l plan new)
+    → HasDescriptorsPut new.modules.process plan.maps plan.given between new.memory → IsCommitted l plan new)

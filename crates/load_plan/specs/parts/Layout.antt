@@ -1,9 +1,7 @@
 -- Where new modules and descriptors go, and what a plan is made from.
-use Rattle.std.specs.Prelude.{◌≡◌, ℕ, ◌+◌, ◌*◌, ◌^◌, ◌<◌, ◌≤◌, Bool, List, length, Option, All}
+use Rattle.std.specs.Prelude.{◌≡◌, ◌+◌, ◌*◌, ◌^◌, ◌<◌, ◌≤◌, length, All}
 use Rattle.std.specs.List.{zip}
-use Rattle.fd_base.specs.Fetched.{Files}
 use Rattle.func_desc.specs.Pool.{Pool, free_slots}
-use Rattle.guest_mem.specs.Memory.{GuestMemory}
 use Rattle.elf_model.specs.declared.constants.TheConstants.{MAX_SEGMENTS}
 use Rattle.placement.specs.Placed.{FailsAt}
 use Rattle.placement.specs.Space.{Space, IsPlaced}
@@ -13,38 +11,26 @@ use Rattle.load_model.specs.declared.error.LoadErr.{LoadErr}
 use Rattle.load_model.specs.declared.error.LoadErr.TheVariants.{Refused, Memory as NoMemory}
 use Rattle.load_model.specs.declared.error.LoadRefusal.TheVariants.{DescriptorsFull, NoRoom}
 use Rattle.load_model.specs.declared.plan.TheConstants.{DESCRIPTORS}
-use Rattle.load_model.specs.Explains.{Explains}
 use Rattle.load_model.specs.Plan.{Fits, low_of, high_of}
 use Rattle.load_map.specs.parts.IsLoadMap.{EndsBelow}
 use Rattle.load_image.specs.Places.{placed_pairs_of}
-use Rattle.load_state.specs.declared.plan.GroupPlan.{GroupPlan}
-use Rattle.load_state.specs.Accepted.{IsPlan, all_items, maps_after}
-use Rattle.load_state.specs.Loaded.{Loaded}
-use Rattle.load_state.specs.Refused.{IsRefused}
+use Rattle.load_state.specs.Accepted.{all_items, maps_after}
+use Rattle.load_state.specs.Loaded.{LoadedModules}
 use Rattle.load_plan.specs.parts.Tables.{HasTables}
 use Rattle.load_plan.specs.declared.layout.Layout.{Layout}
 use Rattle.load_plan.specs.declared.layout.Standing.{Standing}
 use Rattle.load_plan.specs.declared.linking.Linked.{Linked}
 use Rattle.load_plan.specs.parts.LinkedLoad.{HasFewSymbols}
 
--- a loader of these parts, whatever its memory holds
-abbrev pub loaded_by : Standing → Space → Pool → GuestMemory → Loaded
-loaded_by s space pool memory = record {
+-- what is loaded, of these parts
+abbrev pub loaded_by : Standing → Space → Pool → LoadedModules
+loaded_by s space pool = record {
   plan = s.plan.now;
   process = s.process.now;
   maps = s.maps.now;
   held = space.held;
   addrs = pool.addrs;
-  memory = memory;
 }
-
--- the plan of a load of such a loader
-abbrev pub IsPlanOver : Standing → Space → Pool → Option Files → List ℕ → Bool → GroupPlan → Type 0
-IsPlanOver s space pool files root asked plan = (memory : GuestMemory) → IsPlan (loaded_by s space pool memory) files root asked plan
-
--- why it has none, where the store has counted so many faults before and after
-abbrev pub IsErrorOver : Standing → Space → Pool → Option Files → List ℕ → ℕ → ℕ → LoadErr → Type 0
-IsErrorOver s space pool files root old new e = (memory : GuestMemory) → Explains (IsRefused (loaded_by s space pool memory) files root) old new e
 
 -- the ranges and the slots are those of the memory plan, and what is placed is placed below 2^32
 pub record IsRoomy (s : Standing) (space : Space) (pool : Pool) : Type 0 where

@@ -5,7 +5,7 @@ use Rattle.load_model.specs.declared.error.LoadRefusal.{LoadRefusal}
 use Rattle.load_model.specs.declared.plan.MemPlan.{MemPlan}
 use Rattle.load_state.specs.declared.plan.GroupPlan.{GroupPlan}
 use Rattle.load_state.specs.Accepted.{IsPlan}
-use Rattle.load_state.specs.Loaded.{Loaded}
+use Rattle.load_state.specs.Loaded.{Loaded, LoadedModules}
 use Rattle.load_state.specs.ProgramLoad.{IsProgramLoaded, IsLoadRefused}
 use Rattle.load_state.specs.Refused.{IsRefused}
 
@@ -22,11 +22,11 @@ pub record SamePlan (g h : GroupPlan) : Type 0 where
 
 -- a load has one plan, or one refusal, and not both
 pub record PlansAreDetermined : Type 0 where
-  pub same_plan : (l : Loaded) (told : Files) (name : List ℕ) (asked : Bool) (g h : GroupPlan)
+  pub same_plan : (l : LoadedModules) (told : Files) (name : List ℕ) (asked : Bool) (g h : GroupPlan)
       → IsPlan l (Some told) name asked g → IsPlan l (Some told) name asked h → SamePlan g h
-  pub exclusive : (l : Loaded) (told : Files) (name : List ℕ) (asked : Bool) (g : GroupPlan) (r : LoadRefusal)
+  pub exclusive : (l : LoadedModules) (told : Files) (name : List ℕ) (asked : Bool) (g : GroupPlan) (r : LoadRefusal)
       → IsPlan l (Some told) name asked g → ¬ IsRefused l (Some told) name r
-  pub same_refusal : (l : Loaded) (told : Files) (name : List ℕ) (r s : LoadRefusal)
+  pub same_refusal : (l : LoadedModules) (told : Files) (name : List ℕ) (r s : LoadRefusal)
       → IsRefused l (Some told) name r → IsRefused l (Some told) name s → r ≡ s
 
 -- The same of the load of a program: what is loaded is one, to the last byte, whatever the memory was before.

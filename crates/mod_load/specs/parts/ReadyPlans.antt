@@ -11,7 +11,7 @@ pub record MayCommit (l : LoaderState) (plan : GroupPlan) : Type 0 where
   pub files : Option Files
   pub root' : List ℕ
   pub asked : Bool
-  pub planned : IsPlan l.loaded files root' asked plan
+  pub planned : IsPlan l.loaded.modules files root' asked plan
   pub taken : All (λ j. IsTaken j.object) plan.joining
   pub ranges : length plan.items ≤ l.range_room
   pub descriptors : length plan.adopted ≤ l.descriptor_room

@@ -1,10 +1,9 @@
 -- What the run of a job comes to is determined by the job and the told files, and every run ends.
-use Rattle.std.specs.Prelude.{◌≡◌, ◌⊎◌, ℕ, List}
+use Rattle.std.specs.Prelude.{◌≡◌, ◌⊎◌, ◌^◌, ◌<◌}
 use Rattle.fd_base.specs.Fetched.{Files}
 use Rattle.load_model.specs.declared.error.LoadRefusal.{LoadRefusal}
-use Rattle.load_model.specs.declared.plan.MemPlan.{MemPlan}
-use Rattle.load_state.specs.Loaded.{Loaded}
-use Rattle.load_state.specs.ProgramLoad.{IsLoadRefused, IsProgramLoaded}
+use Rattle.load_model.specs.Plan.{Fits}
+use Rattle.load_outcomes.specs.parts.Outcomes.{LoadComesTo}
 use Rattle.run_model.specs.declared.job.Job.{Job}
 use Rattle.run_model.specs.declared.thread.Turned.{Turned}
 use Rattle.run_model.specs.declared.thread.Turned.TheVariants.{Ended, Stopped}
@@ -28,12 +27,12 @@ HasEnded other = ⊥
 abbrev pub RunsEnd : Type 0
 RunsEnd = (job : Job) (told : Files) (c : Course) → IsRun job told c → HasEnded c.answer
 
--- the load of a program is done or refused
-abbrev pub LoadComesTo : MemPlan → Files → List ℕ → Type 0
-LoadComesTo plan told name = ((l : Loaded) × IsProgramLoaded plan told name l) ⊎ ((r : LoadRefusal) × IsLoadRefused plan told name r)
+-- a job has a course that ends, or a refusal
+abbrev pub JobComesTo : Job → Files → Type 0
+JobComesTo job told = ((c : Course) × IsRun job told c × HasEnded c.answer) ⊎ ((r : LoadRefusal) × IsStartRefused job told r)
 
--- Where the load of its program is done or refused, a job has a course that ends, or a refusal.
-abbrev pub RunsComeTo : Type 0
-RunsComeTo =
-    (job : Job) (told : Files) → LoadComesTo job.plan told job.program
-    → ((c : Course) × IsRun job told c × HasEnded c.answer) ⊎ ((r : LoadRefusal) × IsStartRefused job told r)
+pub record RunsComeTo : Type 0 where
+  -- each job over a memory plan whose parts fit
+  pub each : (job : Job) (told : Files) → Fits job.plan → job.plan.memory < 2 ^ 32 → JobComesTo job told
+  -- and each whose program is loaded or refused
+  pub loaded : (job : Job) (told : Files) → LoadComesTo job.plan told job.program → JobComesTo job told

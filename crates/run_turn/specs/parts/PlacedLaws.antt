@@ -5,4 +5,4 @@ use Rattle.load_state.specs.Loaded.{Loaded}
 use Rattle.run_turn.specs.parts.PlacedModules.{ArePlaced}
 
 abbrev pub ConsistentArePlaced : Type 0
-ConsistentArePlaced = (l : Loaded) → IsConsistent l → l.plan.memory < 2 ^ 32 → ArePlaced l.process l.maps
+ConsistentArePlaced = (l : Loaded) → IsConsistent l → l.modules.plan.memory < 2 ^ 32 → ArePlaced l.modules.process l.modules.maps

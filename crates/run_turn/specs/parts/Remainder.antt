@@ -14,8 +14,8 @@ state_with l threads steps = record { loaded = l; threads = threads; steps = ste
 
 -- what is loaded are these modules with these load maps, and the thread of a number is this one
 pub record IsAt (l : Loaded) (p : SymbolicProcess) (maps : List (List MapEntry)) (threads : List (Option Thread)) (t : ℕ) (thread : Thread) : Type 0 where
-  pub process' : l.process ≡ p
-  pub maps' : l.maps ≡ maps
+  pub process' : l.modules.process ≡ p
+  pub maps' : l.modules.maps ≡ maps
   pub at : thread_at threads t ≡ Some thread
 
 -- a turn has left these threads and steps, with this answer and these events

@@ -7,5 +7,5 @@ use Rattle.fdpic_cmd.proofs.slot_listing.put_slots.Given as goal
 -- what is put so far and the lines that are left make the whole
 abbrev pub invariant-loop-k : goal.invariant-loop-k
 invariant-loop-k l =
-    l.out ++ numbered (slot_line l.m) l.k (drop l.k (slots_of_module l.loader.loaded.process l.loader.loaded.maps l.m))
-    ≡ l.fn.out ++ module_lines l.loader.loaded.process l.loader.loaded.maps l.m
+    l.out ++ numbered (slot_line l.m) l.k (drop l.k (slots_of_module l.loader.loaded.modules.process l.loader.loaded.modules.maps l.m))
+    ≡ l.fn.out ++ module_lines l.loader.loaded.modules.process l.loader.loaded.modules.maps l.m

@@ -11,7 +11,7 @@ pub returns-in_err-linked-clause-error : goal.returns-in_err-linked-clause-error
 returns-in_err-linked-clause-error g c =
     let p = err_from_is_err_and c.from_residual.result c.from_residual.ensures.1 in
     rw (p.1, p.2)
-    (λ memory. told_refused (loaded_by c.args.standing.now c.args.ranges.now c.args.pool.now memory) (g.S.Store.files c.args.store.now) c.args.request.now.root.now _ _ _ c.in_err-linked.ensures.error)
+    (told_refused (loaded_by c.args.standing.now c.args.ranges.now c.args.pool.now) (g.S.Store.files c.args.store.now) c.args.request.now.root.now _ _ _ c.in_err-linked.ensures.error)
 
 pub lay_out-requires-clause-few : goal.lay_out-requires-clause-few
 lay_out-requires-clause-few g c = few_joining _ _ _ _ _ c.in_ok-linked.ensures.linked.scoped
@@ -20,7 +20,7 @@ pub returns-in_err-layout-clause-error : goal.returns-in_err-layout-clause-error
 returns-in_err-layout-clause-error g c =
     let p = err_from_is_err_and c.from_residual-in_err-layout.result c.from_residual-in_err-layout.ensures.1 in
     rw (p.1, p.2)
-    (λ memory. unlaid c.args.standing.now c.args.ranges.now c.args.pool.now memory (g.S.Store.files c.args.store.now) c.args.request.now.root.now c.in_ok-linked.linked _ _ _
+    (unlaid c.args.standing.now c.args.ranges.now c.args.pool.now (g.S.Store.files c.args.store.now) c.args.request.now.root.now c.in_ok-linked.linked _ _ _
     c.requires.standing.roomy c.in_ok-linked.ensures.linked c.in_err-layout.ensures.error)
 
 pub finished-requires-clause-mapped : goal.finished-requires-clause-mapped
@@ -34,7 +34,7 @@ finished-requires-clause-mapped g c =
     rw laid.maps' (maps_of space.low space.high s.plan.now.places linked.joining s.maps.now space.held c.in_ok-layout.layout.addrs new.own below (rw laid.items' at laid.placed'))
 
 pub returns-clause-plan : goal.returns-clause-plan
-returns-clause-plan g c = λ memory.
-    planned c.args.standing.now c.args.ranges.now c.args.pool.now memory (g.S.Store.files c.args.store.now) c.args.request.now.root.now c.args.request.now.global c.in_ok-linked.linked c.in_ok-layout.layout
+returns-clause-plan g c =
+    planned c.args.standing.now c.args.ranges.now c.args.pool.now (g.S.Store.files c.args.store.now) c.args.request.now.root.now c.args.request.now.global c.in_ok-linked.linked c.in_ok-layout.layout
     c.in_ok-global.global c.in_ok-parts.parts c.requires.standing.roomy c.in_ok-linked.ensures.linked c.in_ok-layout.ensures.laid
     (rw c.as_slice.ensures at c.in_ok-global.ensures) c.in_ok-parts.ensures

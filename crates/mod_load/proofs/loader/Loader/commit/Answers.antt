@@ -15,7 +15,7 @@ use Rattle.load_places.specs.parts.Modules.{HasModulesPut}
 use Rattle.load_map.specs.parts.IsLoadMap.{EndsBelow}
 use Rattle.load_model.specs.declared.module.SymbolicProcess.{SymbolicProcess}
 use Rattle.load_state.specs.Committed.{IsCommitted}
-use Rattle.load_state.specs.Loaded.{Loaded, LoaderState}
+use Rattle.load_state.specs.Loaded.{Loaded, LoadedModules, LoaderState}
 use Rattle.mod_load.proofs.EnteredAddresses.{after_both}
 use Rattle.mod_load.proofs.GivenDescriptors.{can_adopt, next_given}
 use Rattle.mod_load.proofs.LoaderParts.{plan_of}
@@ -32,7 +32,7 @@ put_modules-requires c =
 pub join-requires-clause-numbers : goal.join-requires-clause-numbers
 join-requires-clause-numbers c =
     let ready = c.requires.ready in
-    (free_numbers_of c.args.self.now.loaded ready.files ready.root' ready.asked c.args.plan ready.planned).small
+    (free_numbers_of c.args.self.now.loaded.modules ready.files ready.root' ready.asked c.args.plan ready.planned).small
 
 pub put_descriptors-requires : goal.put_descriptors-requires
 put_descriptors-requires c =
@@ -85,16 +85,17 @@ returns-clause-committed c =
     let p = plan_of plan c.self.view_is c.requires.consistent c.requires.ready in
     let first : AreEntered plan.adopted i.pool c.adopt_all.new.pool = rw c.as_slice-6.ensures at c.adopt_all.ensures.entered in
     let last : AreEntered plan.given c.adopt_all.new.pool c.give_all.new.pool = rw c.as_slice-7.ensures at c.give_all.ensures in
-    let l : Loaded = record { plan = i.plan; process = i.process; maps = i.maps; held = i.ranges.held; addrs = i.pool.addrs; memory = i.guest } in
-    let new : Loaded = record {
+    let old : LoadedModules = record { plan = i.plan; process = i.process; maps = i.maps; held = i.ranges.held; addrs = i.pool.addrs } in
+    let later : LoadedModules = record {
       plan = i.plan;
       process = c.join.new.process;
       maps = plan.maps;
       held = c.take.new.self.held;
       addrs = c.give_all.new.pool.addrs;
-      memory = c.put_descriptors.new.guest;
     } in
-    let entered : IsEntered l plan new = record {
+    let l : Loaded = record { modules = old; memory = i.guest } in
+    let new : Loaded = record { modules = later; memory = c.put_descriptors.new.guest } in
+    let entered : IsEntered old plan later = record {
       plan' = refl;
       process' = c.join.ensures;
       maps' = refl;
@@ -102,7 +103,7 @@ returns-clause-committed c =
       addrs' = after_both plan.adopted plan.given i.pool c.adopt_all.new.pool c.give_all.new.pool first last;
     } in
     let put : HasModulesPut plan.joining plan.maps plan.parts i.guest c.put_modules.new.guest = rw (c.as_slice.ensures, c.as_slice-2.ensures, c.as_slice-3.ensures) at c.put_modules.ensures.put in
-    let slots : HasDescriptorsPut new.process plan.maps plan.given c.put_modules.new.guest new.memory = rw (c.as_slice-4.ensures, c.as_slice-5.ensures) at c.put_descriptors.ensures in
+    let slots : HasDescriptorsPut later.process plan.maps plan.given c.put_modules.new.guest new.memory = rw (c.as_slice-4.ensures, c.as_slice-5.ensures) at c.put_descriptors.ensures in
     subst (λ (s : LoaderState). IsCommitted s.loaded plan new) c.self.view_is (steps_commit_lem l p.files p.root' p.asked plan p.consistent p.planned p.taken new c.put_modules.new.guest entered put slots)
 
 pub returns-clause-consistent : goal.returns-clause-consistent

@@ -1,7 +1,9 @@
-use Rattle.std.proofs.Common.{ap}
-use Rattle.load_state.specs.Loaded.{Loaded}
-use Rattle.load_state.specs.ProgramLoad.{IsStart}
-use Rattle.mod_load.proofs.NewLoader.{is_start, start_fit, start_is_consistent}
+use Rattle.std.proofs.Common.{◌≡◌, ap}
+use Rattle.load_state.specs.Loaded.{LoadedModules}
+use Rattle.load_state.specs.ProgramLoad.{start_of}
+use Rattle.load_laws.proofs.NewLoaders.{start_laid_out}
+use Rattle.load_laws.proofs.SameModules.{same_modules}
+use Rattle.mod_load.proofs.NewLoader.{is_start, start_fit}
 use Rattle.mod_load.proofs.loader.Loader.new.Goals as goal
 
 pub invariant_of-result : goal.invariant_of-result
@@ -11,23 +13,22 @@ invariant_of-result c =
 
 pub returns : goal.returns
 returns c =
-    let l : Loaded = record {
+    let l : LoadedModules = record {
       plan = c.in_ok-copy.field-0;
       process = c.in_ok-process.process;
       maps = c.in_ok-maps.maps;
       held = c.in_ok-ranges.ranges.held;
       addrs = c.in_ok-pool.pool.addrs;
-      memory = c.in_ok-guest.guest;
     } in
-    let starts : IsStart c.args.plan.now l = record {
-      plan' = c.in_ok-copy.ensures;
-      process' = is_start c.in_ok-process.process c.in_ok-process.ensures.valid c.in_ok-process.ensures.empty c.in_ok-process.ensures.global;
-      maps' = c.in_ok-maps.ensures;
-      held' = ap (λ s. s.held) c.in_ok-ranges.ensures;
-      addrs' = ap (λ p. p.addrs) c.in_ok-pool.ensures;
-    } in
+    let starts : l ≡ start_of c.args.plan.now =
+    same_modules l (start_of c.args.plan.now) c.in_ok-copy.ensures
+    (is_start c.in_ok-process.process c.in_ok-process.ensures.valid c.in_ok-process.ensures.empty c.in_ok-process.ensures.global) c.in_ok-maps.ensures
+    (ap (λ s. s.held) c.in_ok-ranges.ensures) (ap (λ p. p.addrs) c.in_ok-pool.ensures) in
     record {
       starts = starts;
-      consistent = start_is_consistent c.args.plan.now l starts c.requires c.in_ok-guest.ensures.laid_out c.in_ok-guest.ensures.stubs c.in_ok-guest.ensures.clear;
+      fits = c.requires;
+      laid_out = start_laid_out c.args.plan.now l starts c.in_ok-guest.guest c.in_ok-guest.ensures.laid_out;
+      resolver = c.in_ok-guest.ensures.stubs.resolver;
+      ends = c.in_ok-guest.ensures.stubs.ends;
       clear = c.in_ok-guest.ensures.clear;
     }

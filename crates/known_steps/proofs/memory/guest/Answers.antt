@@ -5,17 +5,17 @@ use Rattle.guest_mem.specs.declared.kind.MemKind.TheVariants.{Code, Data, Fixed}
 use Rattle.guest_mem.specs.Memory.{GuestMemory, kind_at}
 use Rattle.guest_mem.proofs.Pasted.{length-filled}
 use Rattle.guest_mem.proofs.Ranged.{kind_at-with_kind_other, kind_at-with_kind_there}
-use Rattle.known_steps.proofs.memory.accesses_in_their_order.Goals as goal
+use Rattle.known_steps.proofs.memory.guest.Goals as goal
 
 pub map-requires-2-clause-free : goal.map-requires-2-clause-free
-map-requires-2-clause-free g c = λ a l h.
+map-requires-2-clause-free c = λ a l h.
     ap (λ (m : GuestMemory). kind_at m a) c.map.ensures
     ∙ kind_at-with_kind_other c.in_ok-guest.guest 0 16 (Some Code) a (inr (omega arith))
     ∙ ap (λ (m : GuestMemory). kind_at m a) c.in_ok-guest.ensures
     ∙ get_or-replicate 64 a None None (omega arith)
 
 pub map-requires-3-clause-free : goal.map-requires-3-clause-free
-map-requires-3-clause-free g c = λ a l h.
+map-requires-3-clause-free c = λ a l h.
     ap (λ (m : GuestMemory). kind_at m a) c.map-2.ensures
     ∙ kind_at-with_kind_other c.map.new.self 16 16 (Some Data) a (inr (omega arith))
     ∙ ap (λ (m : GuestMemory). kind_at m a) c.map.ensures
@@ -24,7 +24,7 @@ map-requires-3-clause-free g c = λ a l h.
     ∙ get_or-replicate 64 a None None (omega arith)
 
 pub watch-requires-clause-data_there : goal.watch-requires-clause-data_there
-watch-requires-clause-data_there g c =
+watch-requires-clause-data_there c =
     let size : length c.map.new.self.kinds ≡ 64 =
     ap (λ (m : GuestMemory). length m.kinds) c.map.ensures
     ∙ length-filled c.in_ok-guest.guest.kinds 0 16 (Some Code)

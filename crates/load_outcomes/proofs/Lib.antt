@@ -1,0 +1,12 @@
+pub mod EachCommit
+pub mod EachImage
+pub mod EachLoad
+pub mod EachPlace
+pub mod EachPlan
+pub mod EachWalk
+pub mod EnteredAddresses
+pub mod MappedSegments
+pub mod NewMemory
+pub mod PutModule
+pub mod PutModules
+pub mod WatchedMemory
