@@ -15,7 +15,8 @@ use Rattle.run_model.specs.declared.event.Event.{Event}
 use Rattle.run_model.specs.declared.event.Event.TheVariants.{Arrive}
 use Rattle.run_model.specs.declared.thread.Call.{Call}
 use Rattle.run_model.specs.declared.thread.Thread.{Thread}
-use Rattle.run_model.specs.Places.{call_begun, code_at}
+use Rattle.placed_code.specs.Places.{code_at}
+use Rattle.run_model.specs.Calls.{call_begun}
 use Rattle.run_model.specs.State.{State, thread_at}
 use Rattle.run_model.specs.Turns.{advanced, arrival, entering, is_complete, turn_of, with_calls}
 use Rattle.call_laws.specs.Calls.{BoundCall, Begins, cpu_after, slot_of}

@@ -1,7 +1,8 @@
 -- The calls that begin.
-use Rattle.std.proofs.Common.{◌≡◌, ℕ, ◌^◌, ◌<◌, Bool, true, false, cond, ◌==◌, Option, Some, None, length, get_or, refl, sym, ap, subst}
+use Rattle.std.proofs.Common.{◌≡◌, ℕ, ◌^◌, ◌<◌, Bool, true, false, cond, ◌==◌, Option, Some, None, length, get_or, refl, sym, ap, subst, ◌∙◌}
 use Rattle.std.specs.Prelude.{option_and_then, option_map, unwrap_or}
 use Rattle.std.proofs.lemmas.Bool.{eqb-true}
+use Rattle.fd_base.proofs.Options.{from_map, from_then}
 use Rattle.elf_model.specs.declared.func.Func.{Func}
 use Rattle.elf_model.specs.declared.object.Object.{Object}
 use Rattle.a32_machine.specs.declared.cpu.Cpu.{Cpu}
@@ -9,13 +10,15 @@ use Rattle.a32_machine.specs.Registers.{pc_of}
 use Rattle.load_map.specs.Maps.{map_at}
 use Rattle.load_map.specs.Translation.{placed}
 use Rattle.load_model.specs.Process.{object_at}
+use Rattle.load_model.specs.Unbound.{slot_of as slot_in}
 use Rattle.load_state.specs.Consistent.{IsConsistent}
 use Rattle.load_state.specs.Loaded.{Loaded}
 use Rattle.plt_code.specs.Entries.{IsClear, slot_entered}
 use Rattle.plt_code.proofs.Called.{entered}
 use Rattle.run_model.specs.declared.thread.Call.{Call}
 use Rattle.run_model.specs.declared.thread.TheConstants.{BOUND_CALL}
-use Rattle.run_model.specs.Places.{call_begun, call_in, call_through, code_at, got_word}
+use Rattle.placed_code.specs.Places.{code_at, entry_at, got_word, slot_at}
+use Rattle.run_model.specs.Calls.{call_begun, call_through}
 use Rattle.call_laws.specs.Calls.{Holds, bound_call, slot_of}
 use Rattle.call_laws.proofs.ClearEntries.{calls_are_held_lem}
 use Rattle.call_laws.specs.BegunCalls.{BegunCallsHold, IsHeldCall}
@@ -32,11 +35,7 @@ pub record IsBegun (l : Loaded) (cpu : Cpu) (call : Call) : Type 0 where
   pub got : (get_or cpu.r 9 0 == got_word l.modules.process l.modules.maps function.module) ≡ true
   pub call' : call ≡ record { number = function.module; slot = slot; length = BOUND_CALL; done = 0; begin = cpu }
 
-some_then : {X Y : Type 0} (g : X → Option Y) (x : Option X) (y : Y) → option_and_then g x ≡ Some y → (z : X) × (x ≡ Some z) × (g z ≡ Some y)
-some_then g None y is = absurd cc
-some_then g (Some z) y is = (z, refl, is)
-
-through : (l : Loaded) (cpu : Cpu) (m k : ℕ) (call : Call) → call_through l.modules.process l.modules.maps cpu m k ≡ Some call
+through : (l : Loaded) (cpu : Cpu) (m k : ℕ) (call : Call) → call_through l.modules.process l.modules.maps cpu (slot_in m k) ≡ Some call
     → ((get_or cpu.r 9 0 == got_word l.modules.process l.modules.maps m) ≡ true) × (call ≡ record { number = m; slot = k; length = BOUND_CALL; done = 0; begin = cpu })
 through l cpu m k call is = by (get_or cpu.r 9 0 == got_word l.modules.process l.modules.maps m) refl is
   where
@@ -48,11 +47,11 @@ through l cpu m k call is = by (get_or cpu.r 9 0 == got_word l.modules.process l
 
 pub begun : (l : Loaded) (cpu : Cpu) (call : Call) → call_begun l.modules.process l.modules.maps cpu ≡ Some call → IsBegun l cpu call
 begun l cpu call is =
-    let f = some_then (call_in l.modules.process l.modules.maps cpu) (code_at l.modules.process l.modules.maps (pc_of cpu)) call is in
-    let k =
-    some_then (call_through l.modules.process l.modules.maps cpu (f.0).module) (option_and_then (λ (o : Object). slot_entered o (f.0).value) (object_at l.modules.process (f.0).module)) call f.2 in
-    let o = some_then (λ (o : Object). slot_entered o (f.0).value) (object_at l.modules.process (f.0).module) k.0 k.1 in
-    let both = through l cpu (f.0).module k.0 call k.2 in
+    let s = from_then (call_through l.modules.process l.modules.maps cpu) (entry_at l.modules.process l.modules.maps (pc_of cpu)) call is in
+    let f = from_then (slot_at l.modules.process) (code_at l.modules.process l.modules.maps (pc_of cpu)) s.0 s.1 in
+    let k = from_map (slot_in (f.0).module) (option_and_then (λ (o : Object). slot_entered o (f.0).value) (object_at l.modules.process (f.0).module)) s.0 f.2 in
+    let o = from_then (λ (o : Object). slot_entered o (f.0).value) (object_at l.modules.process (f.0).module) k.0 k.1 in
+    let both = through l cpu (f.0).module k.0 call (ap (call_through l.modules.process l.modules.maps cpu) k.2 ∙ s.2) in
     record { function = f.0; at = f.1; object' = o.0; live = o.1; slot = k.0; enters = o.2; got = both.0; call' = both.1 }
 
 module _ (l : Loaded) (cpu : Cpu) (h : IsConsistent l) (small : l.modules.plan.memory < 2 ^ 32) (registers : length cpu.r ≡ 16) where

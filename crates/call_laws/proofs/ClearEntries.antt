@@ -1,5 +1,5 @@
 -- A clear entry is that of a call.
-use Rattle.std.proofs.Common.{◌≡◌, ℕ, ◌+◌, ◌^◌, ◌<◌, ◌≤◌, true, [], Option, Some, Ok, slice_get, sym, ap, subst, ◌∙◌, arith}
+use Rattle.std.proofs.Common.{◌≡◌, ℕ, ◌+◌, ◌^◌, ◌<◌, ◌≤◌, true, cond, List, [], Option, Some, Ok, slice_get, sym, ap, subst, ◌∙◌, arith}
 use Rattle.std.specs.Prelude.{option_map}
 use Rattle.std.specs.FinMap.{empty}
 use Rattle.std.specs.Option.{option_map_or}
@@ -15,6 +15,10 @@ use Rattle.load_map.specs.Maps.{map_at}
 use Rattle.load_map.specs.Translation.{placed}
 use Rattle.load_model.specs.Linkage.{linkage_of}
 use Rattle.load_model.specs.Process.{object_at}
+use Rattle.load_model.specs.Unbound.{stub_of, unbound_of, waits}
+use Rattle.elf_model.specs.declared.func.Func.{Func}
+use Rattle.elf_model.specs.Filled.{slot_site, slot_sites}
+use Rattle.elf_model.proofs.FilledSites.{numbered_slot}
 use Rattle.load_state.specs.Consistent.{IsConsistent}
 use Rattle.load_state.specs.Loaded.{Loaded, placing_of}
 use Rattle.load_map.specs.Maps.{map_at}
@@ -25,15 +29,18 @@ use Rattle.plt_code.proofs.Resolved.{entries_stand}
 use Rattle.call_laws.specs.Calls.{Holds, Stays, bound_call}
 use Rattle.call_laws.specs.parts.StandingCalls.{CallsAreHeld, HoldsEntry}
 use Rattle.call_laws.proofs.EntryWords.{entry_below, entry_watched, word_fetched, word_read}
-use Rattle.call_laws.proofs.SlotPairs.{code_aligned, code_of, code_read, function, function_is, got_for, got_read, leads_back, offset_is, slot_below, slot_watched}
+use Rattle.call_laws.proofs.SlotPairs.{code_aligned, code_of, code_read, function_is, got_for, got_read, leads_back, now, now_is, offset_is, slot_below, slot_watched}
 
 -- the pair of slot k
 pub slot_listed : (l : Loaded) (m k : ℕ) (o : Object) (r : Rel) → object_at l.modules.process m ≡ Some o → slot_of o k ≡ Some r
-    → slot_pair_of l.modules.process l.modules.maps m k ≡ Some (slot_pair_at (linkage_of l.modules.process) (placing_of l.modules.process l.modules.maps empty) m o r)
+    → slot_pair_of l.modules.process l.modules.maps m k
+    ≡ Some (slot_pair_at (linkage_of l.modules.process) (placing_of l.modules.process l.modules.maps empty) m o (unbound_of l.modules.process m) (slot_site k r))
 slot_listed l m k o r live slot_is =
-    let pairs = slot_pairs (linkage_of l.modules.process) (placing_of l.modules.process l.modules.maps empty) m in
-    let at = slot_pair_at (linkage_of l.modules.process) (placing_of l.modules.process l.modules.maps empty) m o in
-    ap (λ (y : Option Object). slice_get (option_map_or pairs y []) k) live ∙ slice_get-map at o.jmprels k ∙ ap (option_map at) slot_is
+    let pairs : Object → List SlotPair = λ y.
+    slot_pairs (linkage_of l.modules.process) (placing_of l.modules.process l.modules.maps empty) m y (unbound_of l.modules.process m) in
+    let at = slot_pair_at (linkage_of l.modules.process) (placing_of l.modules.process l.modules.maps empty) m o (unbound_of l.modules.process m) in
+    ap (λ (y : Option Object). slice_get (option_map_or pairs y []) k) live ∙ slice_get-map at (slot_sites 0 o.jmprels) k
+    ∙ ap (option_map at) (numbered_slot o.jmprels k r slot_is)
 
 -- a word among watched bytes
 stays_at : (m : GuestMemory) (a n j : ℕ) → ((i : ℕ) → i < n → is_watched m (a + i) ≡ true) → j + 4 ≤ n → (i : ℕ) → i < 4 → is_watched m (a + j + i) ≡ true
@@ -50,8 +57,8 @@ module _ (l : Loaded) (h : IsConsistent l) (small : l.modules.plan.memory < 2 ^ 
   abbrev pair : SlotPair
   pair = record {
     addr = placed (map_at l.modules.maps m) r.site;
-    code = code_of (placing_of l.modules.process l.modules.maps l.modules.addrs) (function l h small m k o r live entry.is_slot entry.near);
-    got = got_for (placing_of l.modules.process l.modules.maps l.modules.addrs) (function l h small m k o r live entry.is_slot entry.near);
+    code = code_of (placing_of l.modules.process l.modules.maps l.modules.addrs) (now l h small m k o r live entry.is_slot entry.near);
+    got = got_for (placing_of l.modules.process l.modules.maps l.modules.addrs) (now l h small m k o r live entry.is_slot entry.near);
   }
 
   stands : CallStands o v r.site
@@ -113,14 +120,20 @@ module _ (l : Loaded) (h : IsConsistent l) (small : l.modules.plan.memory < 2 ^ 
     watched = entry_stays;
   }
 
+  -- by where the slot leads
+  abbrev pair_by : Option Func → SlotPair
+  pair_by f = record {
+    addr = placed (map_at l.modules.maps m) r.site;
+    code = code_of (placing_of l.modules.process l.modules.maps l.modules.addrs) f;
+    got = got_for (placing_of l.modules.process l.modules.maps l.modules.addrs) f;
+  }
+
   pair_is : slot_pair_of l.modules.process l.modules.maps m k ≡ Some pair
   pair_is =
+      let b = waits (unbound_of l.modules.process m) (slot_site k r) in
       slot_listed l m k o r live entry.is_slot
-      ∙ ap (λ y. Some (record {
-        addr = placed (map_at l.modules.maps m) r.site;
-        code = code_of (placing_of l.modules.process l.modules.maps l.modules.addrs) (function_or_none y);
-        got = got_for (placing_of l.modules.process l.modules.maps l.modules.addrs) (function_or_none y);
-      })) (function_is l h small m k o r live entry.is_slot entry.near)
+      ∙ ap (λ y. Some (pair_by (cond b (Some (stub_of m o r)) (function_or_none y)))) (function_is l h small m k o r live entry.is_slot entry.near)
+      ∙ ap (λ f. Some (pair_by f)) (sym (now_is l h small m k o r live entry.is_slot entry.near))
 
   held : (slot : SlotPair) → slot_pair_of l.modules.process l.modules.maps m k ≡ Some slot → HoldsEntry l.memory p got slot
   held slot is =

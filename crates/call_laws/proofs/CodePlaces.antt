@@ -18,8 +18,9 @@ use Rattle.load_model.specs.Process.{object_at}
 use Rattle.load_state.specs.Consistent.{IsConsistent}
 use Rattle.load_state.specs.Loaded.{Loaded}
 use Rattle.load_map.specs.Maps.{map_at}
+use Rattle.fd_base.proofs.Options.{from_map}
 use Rattle.fd_base.proofs.Ranges.{inside}
-use Rattle.run_model.specs.Places.{code_among, code_at, code_in, is_code_of, link_of}
+use Rattle.placed_code.specs.Places.{code_among, code_at, code_in, is_code_of, link_of}
 use Rattle.call_laws.proofs.PlacedCode.{placed_back}
 
 -- ---- lists
@@ -62,10 +63,6 @@ pub record IsCodedBy (l : Loaded) (a : ℕ) (f : Func) : Type 0 where
   pub above : entry.addr ≤ a
   pub below : a < entry.addr + entry.memsz
   pub value' : f.value ≡ entry.vaddr + (a - entry.addr)
-
-from_map : {X Y : Type 0} (g : X → Y) (x : Option X) (y : Y) → option_map g x ≡ Some y → (z : X) × (x ≡ Some z) × (g z ≡ y)
-from_map g None y is = absurd cc
-from_map g (Some z) y is = (z, refl, cc)
 
 -- the first module with code there
 pub record IsAmong (maps : List (List MapEntry)) (a m : ℕ) (places : List (Option Live)) (f : Func) : Type 0 where

@@ -18,6 +18,7 @@ use Rattle.load_map.specs.Maps.{map_at}
 use Rattle.load_map.specs.Translation.{placed}
 use Rattle.load_model.specs.Linkage.{linkage_of}
 use Rattle.load_model.specs.Process.{object_at}
+use Rattle.load_model.specs.Unbound.{unbound_of}
 use Rattle.load_state.specs.Consistent.{IsConsistent}
 use Rattle.load_state.specs.Loaded.{Loaded, placing_of}
 use Rattle.plt_code.specs.Entries.{IsPltEntry, IsClear, entry_range}
@@ -55,8 +56,8 @@ module _ (l : Loaded) (h : IsConsistent l) (m v k : ℕ) (o : Object) (live : ob
   file_there : (i : ℕ) → i < 20 → byte_at l.memory (p + i) ≡ file_byte o.segments (v + i)
   file_there i lt =
       byte_there l h m c.place o c.segment live c.held v i from (omega (arith, to)) (entry_watched i lt)
-      ∙ others_stay (linkage_of l.modules.process) (placing_of l.modules.process l.modules.maps l.modules.addrs) m o (v + i)
-      (All-weaker (RangesApart (entry_range v)) (IsOffSite (v + i)) (λ q apart. off_entry v i q lt apart) (filled_ranges o) clear.entry)
+      ∙ others_stay (linkage_of l.modules.process) (placing_of l.modules.process l.modules.maps l.modules.addrs) m o (unbound_of l.modules.process m) (v + i)
+      (h.modules'.standing m o live).sound (All-weaker (RangesApart (entry_range v)) (IsOffSite (v + i)) (λ q apart. off_entry v i q lt apart) (filled_ranges o) clear.entry)
 
   place_aligned : p % 4 ≡ 0
   place_aligned = aligned_there l h m c.place o c.segment live c.held v from (omega (arith, to)) entry.aligned

@@ -14,6 +14,7 @@ use Rattle.load_model.specs.Layout.{kind_of_segment}
 use Rattle.load_model.specs.Linkage.{linkage_of}
 use Rattle.load_model.specs.Plan.{high_of}
 use Rattle.load_model.specs.Process.{object_at}
+use Rattle.load_model.specs.Unbound.{unbound_of}
 use Rattle.fd_base.proofs.Ranges.{is_inside}
 use Rattle.load_state.specs.Consistent.{IsConsistent, IsEntryOf, IsStanding}
 use Rattle.load_state.specs.Loaded.{Loaded, placing_of}
@@ -74,7 +75,7 @@ module _ (l : Loaded) (h : IsConsistent l) (m k : ℕ) (o : Object) (s : Segment
       h.laid_out.segments m s e (record { object' = o; live = live; k = k; segment = held; entry = found.1 }) (placed (map_at l.modules.maps m) v + i) (omega arith) (omega arith)
 
   pub byte_there : (v i : ℕ) → s.vaddr ≤ v → v + i < s.vaddr + s.memsz → is_watched l.memory (placed (map_at l.modules.maps m) v + i) ≡ true
-      → byte_at l.memory (placed (map_at l.modules.maps m) v + i) ≡ image_of (linkage_of l.modules.process) (placing_of l.modules.process l.modules.maps l.modules.addrs) m o (v + i)
+      → byte_at l.memory (placed (map_at l.modules.maps m) v + i) ≡ image_of (linkage_of l.modules.process) (placing_of l.modules.process l.modules.maps l.modules.addrs) m o (unbound_of l.modules.process m) (v + i)
   byte_there v i from to watched =
       let at = place_is v i from to in
       let link : e.vaddr ≡ s.vaddr = of_segment.vaddr' in
@@ -82,8 +83,8 @@ module _ (l : Loaded) (h : IsConsistent l) (m k : ℕ) (o : Object) (s : Segment
       let n = v + i - s.vaddr in
       let back : e.vaddr + n ≡ v + i = omega arith in
       ap (byte_at l.memory) at
-      ∙ h.images.bytes m o k e live found.1 n (omega arith) (ap (is_watched l.memory) (sym at) ∙ watched)
-      ∙ ap (image_of (linkage_of l.modules.process) (placing_of l.modules.process l.modules.maps l.modules.addrs) m o) back
+      ∙ h.images.bytes m o live k e found.1 n (omega arith) (ap (is_watched l.memory) (sym at) ∙ watched)
+      ∙ ap (image_of (linkage_of l.modules.process) (placing_of l.modules.process l.modules.maps l.modules.addrs) m o (unbound_of l.modules.process m)) back
 
   pub ends_there : (v n : ℕ) → s.vaddr ≤ v → v < s.vaddr + s.memsz → v + n ≤ s.vaddr + s.memsz → l.modules.plan.memory < 2 ^ 32
       → placed (map_at l.modules.maps m) v + n < 2 ^ 32

@@ -24,6 +24,8 @@ use Rattle.load_map.specs.Maps.{map_at}
 use Rattle.load_map.specs.Translation.{placed}
 use Rattle.fd_base.specs.Ranges.{is_in}
 use Rattle.load_model.specs.Linkage.{linkage_of}
+use Rattle.load_model.specs.Unbound.{stub_of, unbound_of}
+use Rattle.elf_model.specs.Filled.{slot_site}
 use Rattle.load_model.specs.Process.{object_at}
 use Rattle.load_model.specs.Sites.{function_at, is_code}
 use Rattle.load_state.specs.Consistent.{IsConsistent, IsEntryOf}
@@ -37,7 +39,7 @@ use Rattle.call_laws.proofs.ClearEntries.{slot_listed}
 use Rattle.call_laws.proofs.SlotsLead.{held_means, in_object}
 use Rattle.call_laws.proofs.GotsName.{one_owner}
 use Rattle.call_laws.proofs.PlacedCode.{LiesIn, LiesBy, lies_by}
-use Rattle.run_model.specs.Places.{code_among, code_at, code_in, is_code_of, link_of}
+use Rattle.placed_code.specs.Places.{code_among, code_at, code_in, is_code_of, link_of}
 use Rattle.call_laws.specs.parts.SlotLeads.{IsSlotOf, SlotsLeadToPlacedCode}
 use Rattle.call_laws.proofs.CodePlaces.{coded_by}
 
@@ -160,12 +162,15 @@ answer_of (Ok y) f is = ap (λ z. Ok z) is
 answer_of (Err e) f is = absurd cc
 
 module _ (l : Loaded) (h : IsConsistent l) (m k : ℕ) (o : Object) (r : Rel) (slot : SlotPair) (slot_is : IsSlotOf l m k o r slot) where
-  word_is : slot.code ≡ (slot_pair_at (linkage_of l.modules.process) (placing_of l.modules.process l.modules.maps empty) m o r).code
+  word_is : slot.code ≡ option_map_or (λ (g : Func). placed (map_at l.modules.maps g.module) g.value) (slot_function (linkage_of l.modules.process) m o r) 0
   word_is =
-      let both : Some slot ≡ Some (slot_pair_at (linkage_of l.modules.process) (placing_of l.modules.process l.modules.maps empty) m o r) =
-      sym slot_is.pair ∙ slot_listed l m k o r slot_is.live slot_is.is_slot in
-      let same : slot ≡ slot_pair_at (linkage_of l.modules.process) (placing_of l.modules.process l.modules.maps empty) m o r = cc in
+      let at : SlotPair =
+      slot_pair_at (linkage_of l.modules.process) (placing_of l.modules.process l.modules.maps empty) m o (unbound_of l.modules.process m) (slot_site k r) in
+      let both : Some slot ≡ Some at = sym slot_is.pair ∙ slot_listed l m k o r slot_is.live slot_is.is_slot in
+      let same : slot ≡ at = cc in
       ap (λ (s : SlotPair). s.code) same
+      ∙ ap (λ b. option_map_or (λ (g : Func). placed (map_at l.modules.maps g.module) g.value)
+      (cond b (Some (stub_of m o r)) (slot_function (linkage_of l.modules.process) m o r)) 0) slot_is.bound
 
   to_function : (f : Func) → slot_function (linkage_of l.modules.process) m o r ≡ Some f → code_at l.modules.process l.modules.maps slot.code ≡ Some f
   to_function f is =

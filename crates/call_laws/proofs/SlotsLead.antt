@@ -32,14 +32,10 @@ use Rattle.load_state.specs.Loaded.{Loaded, placing_of}
 use Rattle.load_map.specs.Maps.{map_at}
 use Rattle.fd_base.proofs.Members.{filter_map_in, nothing_in}
 use Rattle.load_laws.proofs.OwnDescriptors.{code_at}
+use Rattle.load_laws.proofs.SlotFunctions.{pair_value}
 use Rattle.call_laws.proofs.PlacedCode.{aligned_there, ends_there}
 
 -- ---- the value of a slot
-
--- a slot leads to a function, or to none
-pub pair_value : (k : Linkage) (m : ℕ) (o : Object) (r : Rel) → r.kind ≡ R_ARM_FUNCDESC_VALUE → site_value k m o r ≡ written Pair (function_at k m o r)
-unfolding site_value
-pair_value k m o r kind = rw kind refl
 
 answered : {X : Type 0} (x : Result X LoadRefusal) → ((e : LoadRefusal) → x ≡ Err e → ⊥) → (y : X) × (x ≡ Ok y)
 answered (Ok y) never = (y, refl)
@@ -98,7 +94,7 @@ in_object None v is = cc
 in_object (Some o) v is = (o, refl, is)
 
 module _ (l : Loaded) (h : IsConsistent l) (small : l.modules.plan.memory < 2 ^ 32) where
-  code_target : (f : Func) → is_code (linkage_of l.modules.process) f ≡ true → IsTarget l (Some f)
+  pub code_target : (f : Func) → is_code (linkage_of l.modules.process) f ≡ true → IsTarget l (Some f)
   code_target f is =
       let parts = and_parts (f.value % 4 == 0) (option_map_or (λ (o : Object). is_executable_in o.segments f.value) (object_at l.modules.process f.module) false) is in
       let x = in_object (object_at l.modules.process f.module) f.value parts.1 in

@@ -12,7 +12,8 @@ use Rattle.load_state.specs.Slots.{slot_pair_of}
 use Rattle.plt_code.specs.Entries.{IsClear}
 use Rattle.run_model.specs.declared.thread.Call.{Call}
 use Rattle.run_model.specs.declared.thread.TheConstants.{BOUND_CALL}
-use Rattle.run_model.specs.Places.{call_begun, code_at, got_word}
+use Rattle.placed_code.specs.Places.{code_at, got_word}
+use Rattle.run_model.specs.Calls.{call_begun}
 use Rattle.call_laws.specs.Calls.{Begins, Holds, bound_call, slot_of}
 
 -- nothing that loading fills meets the entry at which the pc is

@@ -7,3 +7,4 @@ pub mod RelExamples
 pub mod SoundSegments
 pub mod SoundSites
 pub mod Soundness
+pub mod FilledSites

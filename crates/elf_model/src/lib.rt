@@ -13,6 +13,7 @@ mod relocatable;
 mod symbol_hash;
 mod table;
 
+pub use filled::{FilledSite, FilledSites};
 pub use func::Func;
 pub use laws::{accepted_is_sound, numbers, one_object};
 pub use object::{

@@ -2,6 +2,7 @@ pub mod Bools
 pub mod Changing
 pub mod Filed
 pub mod Finding
+pub mod FirstNumber
 pub mod Growing
 pub mod Hosted
 pub mod Lists

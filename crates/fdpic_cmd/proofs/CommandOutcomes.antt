@@ -108,7 +108,7 @@ module _ (told : Files) (name : List ℕ) (means : Job → Outcome → Type 0) (
 
 -- the parts of the memory of a command that names no job fit
 plan_fits : (file : List ℕ) (text data' : ℕ) → Fits (plan_of file text data')
-plan_fits file text data' = record { stacks = omega arith; modules = omega arith }
+plan_fits file text data' = record { some_threads = omega arith; some_processes = omega arith; stacks = omega arith; modules = omega arith }
 
 pub commands_come_to_lem : CommandsComeTo
 commands_come_to_lem (Bind file text data') told =

@@ -1,5 +1,5 @@
 -- The lines of slots, one after the other.
-use Rattle.std.proofs.Common.{◌≡◌, ℕ, zero, suc, ◌+◌, ◌≤◌, List, [], ◌∷◌, ◌++◌, length, drop, Option, Some, None, refl, sym, ap, ◌∙◌, arith, append-nil, append_assoc}
+use Rattle.std.proofs.Common.{◌≡◌, ℕ, zero, suc, ◌+◌, ◌≤◌, List, [], ◌∷◌, ◌++◌, length, drop, map, Option, Some, None, refl, sym, ap, ◌∙◌, arith, append-nil, append_assoc}
 use Rattle.std.specs.FinMap.{empty}
 use Rattle.std.specs.List.{flat_map, range_with_len}
 use Rattle.std.specs.Prelude.{slice_get}
@@ -13,7 +13,10 @@ use Rattle.load_model.specs.Linkage.{linkage_of}
 use Rattle.load_model.specs.Process.{object_at}
 use Rattle.load_state.specs.Consistent.{IsConsistent}
 use Rattle.load_state.specs.Loaded.{Loaded, placing_of}
-use Rattle.load_state.specs.Slots.{slots_of_module, slot_pairs}
+use Rattle.load_state.specs.Slots.{slots_of_module, slot_pair_at, slot_pairs}
+use Rattle.load_model.specs.Unbound.{unbound_of}
+use Rattle.elf_model.specs.Filled.{slot_sites}
+use Rattle.elf_model.proofs.FilledSites.{slots_count}
 use Rattle.fd_base.specs.Fields.{numbered}
 use Rattle.fdpic_cmd.specs.Slots.{module_lines, slot_listing}
 
@@ -24,9 +27,13 @@ from_none (y ∷ ys) zero h = absurd cc
 from_none (y ∷ ys) (suc k) h = from_none ys k h
 
 few_by : (l : Loaded) (m : ℕ) → IsConsistent l → (o : Option Object) → object_at l.modules.process m ≡ o
-    → length (option_map_or (slot_pairs (linkage_of l.modules.process) (placing_of l.modules.process l.modules.maps empty) m) o []) ≤ 65536
+    → length (option_map_or (λ x. slot_pairs (linkage_of l.modules.process) (placing_of l.modules.process l.modules.maps empty) m x (unbound_of l.modules.process m)) o []) ≤ 65536
 few_by l m h None e = omega arith
-few_by l m h (Some o) e = simp length-map (h.modules'.standing m o e).sound.few_slots
+few_by l m h (Some o) e =
+    let few = (h.modules'.standing m o e).sound.few_slots in
+    let at = slot_pair_at (linkage_of l.modules.process) (placing_of l.modules.process l.modules.maps empty) m o (unbound_of l.modules.process m) in
+    let count : length (map at (slot_sites 0 o.jmprels)) ≡ length o.jmprels = length-map (slot_sites 0 o.jmprels) at ∙ slots_count 0 o.jmprels in
+    omega (arith, few, count)
 
 -- a module has as many slots as its table may have entries
 pub few_slots : (l : Loaded) (m : ℕ) → IsConsistent l → length (slots_of_module l.modules.process l.modules.maps m) ≤ 65536

@@ -17,6 +17,8 @@ plan_of file text data' = record {
   descriptors = 64;
   stack = 1024;
   places = record { name = file; addrs = text ∷ data' ∷ [] } ∷ [];
+  threads = 8;
+  processes = 1;
 }
 
 -- what is said of the file, where it has this name, and else of the load

@@ -28,6 +28,8 @@ fn plan_of(alloc: Global, file: &Name, text: u32, data: u32) -> Result<MemPlan, 
         descriptors: 64,
         stack: 1024,
         places,
+        threads: 8,
+        processes: 1,
     })
 }
 

@@ -1,11 +1,12 @@
 -- What a job is made of.
-use Rattle.std.proofs.Common.{◌≡◌, ℕ, ◌+◌, Bool, true, false, List, [], length, Option, Some, None, Result, Ok, Err, refl, sym, ap, ◌∙◌, subst, arith}
+use Rattle.std.proofs.Common.{◌≡◌, ℕ, ◌+◌, ◌*◌, ◌<◌, ◌≤◌, Bool, true, false, List, [], length, Option, Some, None, Result, Ok, Err, refl, sym, ap, ◌∙◌, subst, arith}
 use Rattle.std.specs.Prelude.{drop, if◌then◌else◌}
 use Rattle.std.specs.Option.{option_map_or}
 use Rattle.std.specs.Result.{result_map_both}
 use Rattle.std.proofs.lemmas.Bool.Decides.{nat_tests}
 use Rattle.load_model.specs.declared.plan.MemPlan.{MemPlan}
-use Rattle.load_model.specs.Plan.{Fits}
+use Rattle.load_model.specs.Plan.{Fits, slots_end, low_of, high_of}
+use Rattle.load_model.proofs.PlanParts.{low_above}
 use Rattle.run_model.specs.declared.job.Job.{Job}
 use Rattle.job_text.specs.declared.given.Given.{Given}
 use Rattle.job_text.specs.declared.limits.Limits.{Limits}
@@ -64,8 +65,20 @@ pub job_is_made : (limits : Limits) (lines : List (List ℕ)) (job : Job) → jo
 unfolding job_of
 job_is_made limits lines job e = by_header limits (drop 1 lines) job (is_headed lines) e
 
+-- nothing fits in a memory of fewer bytes than there are slots
+pub no_room : (plan : MemPlan) → plan.memory < plan.descriptors * plan.processes → has_room plan ≡ false
+no_room plan more =
+    let above : slots_end plan ≤ low_of plan = low_above plan in
+    let behind : high_of plan < low_of plan = omega arith in
+    grind (arith, nat_tests)
+
 pub room_fits : (plan : MemPlan) → has_room plan ≡ true → Fits plan
-room_fits plan e = record { stacks = grind (arith, nat_tests); modules = grind (arith, nat_tests) }
+room_fits plan e = record {
+  some_threads = grind (arith, nat_tests);
+  some_processes = grind (arith, nat_tests);
+  stacks = grind (arith, nat_tests);
+  modules = grind (arith, nat_tests);
+}
 
 pub job_fits : (limits : Limits) (lines : List (List ℕ)) (job : Job) → job_of limits lines ≡ Ok job → Fits job.plan
 job_fits limits lines job e =

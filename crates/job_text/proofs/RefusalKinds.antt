@@ -339,7 +339,7 @@ unfolding job_by
 is_no_program limits given = ((λ e. by_program limits given given.program e), (λ e. rw e refl))
 
 fits_room : (plan : MemPlan) → Fits plan → has_room plan ≡ true
-fits_room plan f = let a = f.stacks in let b = f.modules in grind (arith, nat_tests)
+fits_room plan f = let a = f.stacks in let b = f.modules in let t = f.some_threads in let p = f.some_processes in grind (arith, nat_tests)
 
 room_or : (limits : Limits) (given : Given) (program : List ℕ) (b : Bool) → has_room (plan_by limits given) ≡ b → (if b then Ok (job_of_program limits given program) else Err Small) ≡ Err Small → Fits (plan_by limits given) → ⊥
 room_or limits given program true is e f = cc

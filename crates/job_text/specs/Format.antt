@@ -11,6 +11,7 @@ first_format = record {
   lazy = true;
   addresses = 8;
   places = 1024;
+  threads = 8;
   thread = record { least = 0; most = 7; multiple = 1 };
   count = record { least = 1; most = 1000000; multiple = 1 };
   turns = 65536;

@@ -1,11 +1,10 @@
 -- What the statements of a job give, which further statements they rule out, and the job that they make.
-use Rattle.std.specs.Prelude.{ℕ, ◌*◌, Bool, nat_le, ◌&&◌, List, [], ◌∷◌, ◌++◌, length, if◌then◌else◌, Option, Some, None, Result, Ok, Err, unwrap_or}
+use Rattle.std.specs.Prelude.{ℕ, ◌*◌, Bool, nat_le, nat_lt, ◌&&◌, List, [], ◌∷◌, ◌++◌, length, if◌then◌else◌, Option, Some, None, Result, Ok, Err, unwrap_or}
 use Rattle.std.specs.Option.{option_or, option_map_or}
 use Rattle.std.specs.List.{filter_map, list_any}
 use Rattle.std.specs.Str.{bytes_eq}
 use Rattle.load_model.specs.declared.plan.MemPlan.{MemPlan}
 use Rattle.load_model.specs.declared.plan.PlaceLine.{PlaceLine}
-use Rattle.load_model.specs.declared.plan.TheConstants.{THREADS}
 use Rattle.load_model.specs.Plan.{low_of, high_of}
 use Rattle.run_model.specs.declared.job.Job.{Job}
 use Rattle.run_model.specs.declared.job.Turn.{Turn}
@@ -111,15 +110,19 @@ repeat_refusal limits given (TurnLine turn) = too_many limits.turns given.turns
 
 -- whether the parts of the memory fit, as a test of `Fits`
 abbrev pub has_room : MemPlan → Bool
-has_room plan = nat_le (THREADS * plan.stack) plan.memory && nat_le (low_of plan) (high_of plan)
+has_room plan =
+    nat_lt 0 plan.threads
+    && (nat_lt 0 plan.processes && (nat_le (plan.threads * plan.stack) plan.memory && nat_le (low_of plan) (high_of plan)))
 
--- the values that are given, and else the defaults
+-- the values that are given, and else the defaults, for one process
 abbrev pub plan_by : Limits → Given → MemPlan
 plan_by limits given = record {
   memory = unwrap_or given.memory limits.memory.default;
   descriptors = unwrap_or given.descriptors limits.descriptors.default;
   stack = unwrap_or given.stack limits.stack.default;
   places = given.places;
+  threads = limits.threads;
+  processes = 1;
 }
 
 abbrev pub job_of_program : Limits → Given → List ℕ → Job

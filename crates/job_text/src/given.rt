@@ -1,6 +1,6 @@
 //! What the statements of a job give.
 
-ghost use Rattle.std.specs.Prelude.{◌≡◌, ◌++◌, ◌∷◌, [], OnOk, IfErr};
+ghost use Rattle.std.specs.Prelude.{◌≡◌, ◌*◌, ◌++◌, ◌∷◌, [], OnOk, IfErr};
 ghost use Rattle.std.specs.List.{list_any};
 ghost use Rattle.std.specs.Str.{bytes_eq};
 ghost use Rattle.job_text.specs.parts.Answers.{IsOf};
@@ -10,7 +10,7 @@ use crate::limits::Limits;
 use crate::refusal::{JobKind, LineErr};
 use crate::statement::Statement;
 use fd_base::{Name, Seq};
-use load_model::{DESCRIPTOR_SIZE, DESCRIPTORS, MemPlan, PlaceLine, Places, THREADS};
+use load_model::{DESCRIPTOR_SIZE, LOAD_MAPS, LOAD_MAPS_SIZE, MemPlan, PlaceLine, Places};
 use run_model::{Job, Turn, Turns};
 use std::alloc::Global;
 
@@ -82,14 +82,30 @@ fn add_turn(turns: &mut Turns, most: u32, turn: Turn) -> Result<(), LineErr>
     Ok(())
 }
 
+/// The product of two numbers.
+fn product(a: u32, b: u32) -> u64
+    ensures { result ≡ a * b }
+{
+    u64::from(a) * u64::from(b)
+}
+
 /// Whether the parts of the memory fit.
 fn has_room(plan: &MemPlan) -> bool
     ensures { result ≡ spec.has_room plan.now }
 {
     let memory = u64::from(plan.memory);
-    let stacks = u64::from(THREADS) * u64::from(plan.stack);
-    let behind = u64::from(DESCRIPTORS) + u64::from(DESCRIPTOR_SIZE) * u64::from(plan.descriptors);
-    stacks <= memory && (behind + 15) / 16 * 16 <= memory - stacks
+    let stacks = product(plan.threads, plan.stack);
+    let slots = product(plan.descriptors, plan.processes);
+    // Else the sums below may be too large.
+    if slots > memory {
+        return false;
+    }
+    let load_maps = u64::from(LOAD_MAPS_SIZE) * u64::from(plan.processes);
+    let behind = u64::from(LOAD_MAPS) + load_maps + u64::from(DESCRIPTOR_SIZE) * slots;
+    plan.threads > 0
+        && plan.processes > 0
+        && stacks <= memory
+        && (behind + 15) / 16 * 16 <= memory - stacks
 }
 
 impl Given {
@@ -153,6 +169,8 @@ impl Given {
             descriptors: descriptors.unwrap_or(limits.descriptors.default),
             stack: stack.unwrap_or(limits.stack.default),
             places,
+            threads: limits.threads,
+            processes: 1,
         };
         if !has_room(&plan) {
             return Err(JobKind::Small);

@@ -36,6 +36,8 @@ pub struct Limits {
     pub addresses: u32,
     /// How many place lines there are at most.
     pub places: u32,
+    /// The most threads.
+    pub threads: u32,
     /// The number of a turn's thread.
     pub thread: Bounds,
     /// The most steps of a turn.
@@ -81,6 +83,7 @@ pub const FORMAT_1: Limits = Limits {
     lazy: true,
     addresses: 8,
     places: 1_024,
+    threads: 8,
     thread: Bounds {
         least: 0,
         most: 7,

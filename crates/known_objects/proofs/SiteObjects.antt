@@ -15,10 +15,10 @@ use Rattle.elf_model.specs.declared.table.Site.{Site}
 use Rattle.elf_model.specs.Places.{is_writable_in, site_of_rel, filled_ranges}
 use Rattle.elf_model.specs.Relocations.{site_size, word_site, got_header}
 use Rattle.symbol_scope.specs.declared.table.Table.{Table}
-use Rattle.symbol_scope.specs.parts.Exports.{ExportMap, exports_of}
+use Rattle.symbol_scope.specs.Exports.{ExportMap, exports_of}
 use Rattle.symbol_scope.specs.parts.Needs.{table_at}
 use Rattle.symbol_scope.specs.parts.Slots.{Slots}
-use Rattle.symbol_scope.specs.parts.Table.{table_of}
+use Rattle.symbol_scope.specs.Table.{table_of}
 use Rattle.load_model.specs.declared.module.Joining.{Joining}
 use Rattle.load_model.specs.Linkage.{joining_at}
 use Rattle.load_sites.specs.declared.linker.Linker.{Linker}
@@ -189,7 +189,7 @@ objects_are l empty m =
     ap (λ ms. option_or (option_map (λ j. j.object) (joining_at l.joining.now m)) (option_map (λ live. live.object) (option_and_then (λ place. place) (slice_get ms m)))) empty
     ∙ or_none (option_map (λ j. j.object) (joining_at l.joining.now m))
 
-pub ready_by : (l : Linker) → l.process.now.modules ≡ [] → ((m : ℕ) → option_map (λ x. x.exports) (table_at l.tables.now m) ≡ wants (joining_at l.joining.now m))
+pub ready_by : (l : Linker) → l.process.now.modules ≡ [] → ((m : ℕ) → option_map (λ x. x.exports) (table_at l.tables.now.slots m) ≡ wants (joining_at l.joining.now m))
     → All (λ j. length j.object.symbols ≤ 2 ^ 32) l.joining.now → IsReady l
 ready_by l empty tables few = record {
   tables = λ m. tables m ∙ twice (λ j. j.object) (λ o. exports_of o.symbols) (joining_at l.joining.now m) ∙ ap (option_map (λ o. exports_of o.symbols)) (sym (objects_are l empty m));

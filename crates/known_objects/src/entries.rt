@@ -8,6 +8,7 @@ mod example;
 use crate::checks::{same, same_at};
 use elf_model::Object;
 use example::{CODE, DATA, object, put_words};
+use load_model::unbound_at_first;
 use plt_code::{Entry, entries, entry_words, lazy_place, slot_entered};
 use std::alloc::Global;
 use std::process::Abort;
@@ -76,6 +77,23 @@ fn has_one_entry(rt: &impl Abort, alloc: Global, o: &Object) -> Result<(), Fail>
 fn an_entry_and_its_lazy_call(rt: HostRuntime) -> Result<(), Fail> {
     let o = object(rt.alloc(), CODE, &text(), &NO_CODE, &data())?;
     has_one_entry(&rt, rt.alloc(), &o)
+}
+
+/// The slot that leads to its call of the resolver waits where slots may; the other never does.
+fn has_a_slot_that_waits(rt: &impl Abort, alloc: Global, o: &Object) -> Result<(), Fail>
+    requires { IsSound o.now }
+{
+    for (lazy, wanted) in [(true, [true, false]), (false, [false, false])] {
+        let flags = unbound_at_first(alloc, lazy, o)?;
+        same(rt, flags.as_slice(), wanted.as_slice());
+    }
+    Ok(())
+}
+
+#[test]
+fn slots_that_wait(rt: HostRuntime) -> Result<(), Fail> {
+    let o = object(rt.alloc(), CODE, &text(), &NO_CODE, &data())?;
+    has_a_slot_that_waits(&rt, rt.alloc(), &o)
 }
 
 fn has_four_entries(rt: &impl Abort, alloc: Global, o: &Object) -> Result<(), Fail>

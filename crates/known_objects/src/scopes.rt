@@ -1,5 +1,7 @@
 //! Values from outside: which definition wins, what is exported, and the order of a closure.
 
+ghost use Rattle.std.specs.Prelude.{◌<◌, OnOk};
+
 use crate::checks::{same, same_at};
 use elf_model::{Inits, Kind, Object, Place, Symbol};
 use fd_base::{Name, Numbers, Seq};
@@ -60,7 +62,9 @@ fn enter(
     number: u32,
     needed: &[&[u8]],
     symbols: Vec<Symbol>,
-) -> Result<(), Fail> {
+) -> Result<(), Fail>
+    ensures { OnOk result (number < tables.new.room) }
+{
     assert!(rt; number < MAX_MODULES);
     let o = object(alloc, needed, symbols)?;
     assert!(rt; o.symbols.len() < 9);
@@ -74,7 +78,9 @@ const FUNC: u8 = 2;
 const HERE: Place = Place::Here;
 
 /// A program without definitions, a library that defines `foo` twice behind another name, and one that defines it once.
-fn add_three(rt: &impl Abort, alloc: Global, tables: &mut Tables) -> Result<(), Fail> {
+fn add_three(rt: &impl Abort, alloc: Global, tables: &mut Tables) -> Result<(), Fail>
+    ensures { OnOk result (2 < tables.new.room) }
+{
     let program = vec![in alloc; symbol(alloc, b"foo", (1, FUNC, 0), Place::Undefined)?]?;
     enter(rt, alloc, tables, 0, &[], program)?;
     let weak = vec![in alloc;
@@ -116,6 +122,22 @@ fn first_definition_wins(rt: HostRuntime) -> Result<(), Fail> {
     tables.remove(1);
     let first = found(alloc, &tables, &[0, 1, 2], b"foo")?;
     same(&rt, first, Some((2, 0)));
+    Ok(())
+}
+
+/// A table that is taken out and put in under another number is found there.
+#[test]
+fn table_of_another_number(rt: HostRuntime) -> Result<(), Fail> {
+    let alloc = rt.alloc();
+    let mut tables = Tables::new(alloc);
+    add_three(&rt, alloc, &mut tables)?;
+    let table = tables.take(1).ok_or("no table")?;
+    same(&rt, tables.take(1).is_some(), false);
+    same(&rt, tables.take(64).is_some(), false);
+    same(&rt, found(alloc, &tables, &[0, 1], b"foo")?, None);
+    tables.put(0, table);
+    let first = found(alloc, &tables, &[0, 1], b"foo")?;
+    same(&rt, first, Some((0, 1)));
     Ok(())
 }
 

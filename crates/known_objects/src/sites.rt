@@ -2,7 +2,7 @@
 
 ghost use Rattle.std.specs.Prelude.{◌≡◌, ◌≤◌, ◌<◌, ◌^◌, ℕ, [], length, All, IfOk, OnOk, option_map};
 ghost use Rattle.elf_model.specs.Sound.{IsSound};
-ghost use Rattle.symbol_scope.specs.parts.Exports.{exports_of};
+ghost use Rattle.symbol_scope.specs.Exports.{exports_of};
 ghost use Rattle.symbol_scope.specs.parts.Needs.{table_at};
 ghost use Rattle.load_model.specs.Linkage.{joining_at};
 ghost use Rattle.load_sites.specs.parts.Linker.{IsReady};
@@ -167,8 +167,8 @@ fn add(alloc: Global, joining: &mut Seq<Joining>, number: u32, object: Object) -
 
 fn tables_of(rt: &impl Abort, alloc: Global, joining: &[Joining]) -> Result<Tables, Fail>
     ensures tables { IfOk result (λ t. (m : ℕ)
-        → option_map (λ x. x.exports) (table_at t m) ≡ option_map (λ j. exports_of j.object.symbols) (joining_at joining.now m)) }
-    ensures size { IfOk result (λ t. length t ≡ 64) }
+        → option_map (λ x. x.exports) (table_at t.slots m) ≡ option_map (λ j. exports_of j.object.symbols) (joining_at joining.now m)) }
+    ensures size { IfOk result (λ t. length t.slots ≡ 64) }
     ensures few { OnOk result (All (λ j. length j.object.symbols ≤ 2 ^ 32) joining.now) }
 {
     let [new, rest @ ..] = joining else {
@@ -189,7 +189,7 @@ fn linker_of<'a>(
 ) -> Linker<'a>
     requires empty { process.now.modules ≡ [] }
     requires tables { (m : ℕ)
-        → option_map (λ x. x.exports) (table_at tables.now m) ≡ option_map (λ j. exports_of j.object.symbols) (joining_at joining.now m) }
+        → option_map (λ x. x.exports) (table_at tables.now.slots m) ≡ option_map (λ j. exports_of j.object.symbols) (joining_at joining.now m) }
     requires few { All (λ j. length j.object.symbols ≤ 2 ^ 32) joining.now }
     ensures ready { IsReady result }
     ensures joining { result.joining.now ≡ joining.now }

@@ -9,6 +9,7 @@ mod opens;
 
 use crate::checks::{same, same_at};
 use crate::files::{Image, add};
+use elf_model::Func;
 use fd_base::{MemStore, Name, Seq};
 use mod_load::{LoadErr, LoadRefusal, Loader, MemPlan, PlaceLine, Places, load_program};
 use std::alloc::Global;
@@ -110,6 +111,7 @@ fn add_programs(store: &mut MemStore, alloc: Global) -> Result<(), Fail> {
     let lost = [0, 0x8, 0x5_0000];
     add_object(store, alloc, b"lost", &lost, &dynamic, &list)?;
     add_naming(store, alloc, b"asks", [NEEDED, FOO], UNDEFINED)?;
+    add_calling(store, alloc)?;
     add_exporting(store, alloc)
 }
 
@@ -173,6 +175,37 @@ fn add_naming(
     add_object(store, alloc, file, &words, &dynamic, &[])
 }
 
+/// A program that needs `l.so`, with a slot for its `foo` at 0x1000c.
+fn add_calling(store: &mut MemStore, alloc: Global) -> Result<(), Fail> {
+    let words = [
+        0,
+        0,
+        0x1_000c,
+        0x1a4, // the slot and its relocation
+        1,
+        2,
+        1,
+        0,
+        0, // the hash table
+        0,
+        0,
+        0,
+        0,
+        1,
+        0,
+        0,
+        0x12, // the symbols
+        FOO,
+        0x732e_6c00,
+        0x6f, // the strings
+    ];
+    let dynamic = [
+        NEEDED, 5, 3, 0x1_0000, 23, 0x1_0014, 2, 8, 20, 17, // the library, the GOT and the slot
+        4, 0x1_001c, 6, 0x1_0030, 5, 0x1_0050, 10, 12, 0, 0, // symbols and strings
+    ];
+    add_object(store, alloc, b"calls", &words, &dynamic, &[])
+}
+
 /// A library with `foo` and `bar` at 0x300, and the address of the descriptor of `bar` at 0x1000c.
 fn add_exporting(store: &mut MemStore, alloc: Global) -> Result<(), Fail> {
     let words = [
@@ -224,6 +257,8 @@ fn plan_with(places: Places) -> MemPlan
         descriptors: 64,
         stack: 1024,
         places,
+        threads: 8,
+        processes: 1,
     }
 }
 
@@ -238,6 +273,7 @@ fn place_all(alloc: Global, places: &mut Places, data: u32) -> Result<(), Fail> 
     place(alloc, places, b"relative", &[0x2_0000, data])?;
     place(alloc, places, b"fixups", &[0x2_0000, data])?;
     place(alloc, places, b"asks", &[0x2_0000, data])?;
+    place(alloc, places, b"calls", &[0x2_0000, data])?;
     place(alloc, places, b"l.so", &[0x4_0000, 0x5_0000])?;
     place(alloc, places, b"baz", &[0x6_0000, 0x7_0000])?;
     place(alloc, places, b"no_room", &[0x6_0000, 0x4_0000])?;
@@ -331,6 +367,20 @@ fn words_in_memory(rt: HostRuntime) -> Result<(), Fail> {
         let mut loader = load(rt.alloc(), case.program, case.data)?;
         is_placed(&rt, &loader, case.data);
         check_words(&rt, &mut loader, case.words);
+    }
+    Ok(())
+}
+
+/// A slot leads to the definition of its name, and past the last slot and the last module nothing leads anywhere.
+#[test]
+fn where_slots_lead(rt: HostRuntime) -> Result<(), Fail> {
+    let loader = load(rt.alloc(), b"calls", 0x8_0000)?;
+    let foo = Func {
+        module: 1,
+        value: 0x300,
+    };
+    for (m, k, target) in [(0, 0, Some(foo)), (0, 1, None), (1, 0, None), (64, 0, None)] {
+        same_at(&rt, m, loader.slot_def(m, k), target);
     }
     Ok(())
 }

@@ -1,5 +1,5 @@
 -- One more part of an image.
-use Rattle.std.proofs.Common.{◌≡◌, ℕ, ◌+◌, ◌-◌, ◌<◌, ◌≤◌, List, [], ◌∷◌, ◌++◌, length, get_or, slice_index, take, sym, ap, subst, ◌∙◌, arith, cond}
+use Rattle.std.proofs.Common.{◌≡◌, ℕ, Bool, ◌+◌, ◌-◌, ◌<◌, ◌≤◌, List, [], ◌∷◌, ◌++◌, length, get_or, slice_index, take, sym, ap, subst, ◌∙◌, arith, cond}
 use Rattle.std.specs.List.{AllZip}
 use Rattle.std.proofs.lemmas.List.{take_all, take_more}
 use Rattle.load_map.specs.declared.entry.MapEntry.{MapEntry}
@@ -25,13 +25,13 @@ part_byte ws bytes below vaddr i new old is raw file =
     let place : vaddr + i - vaddr ≡ i = omega arith in
     is ∙ byte_over-same ws (λ v. slice_index bytes (v - vaddr)) below (vaddr + i) (ap (slice_index bytes) place ∙ raw ∙ sym file)
 
-pub part_more : (l : Linkage) (p : Placing) (load_map : List MapEntry) (m : ℕ) (o : Object) (words : List LinkWord) (image : List (List ℕ)) (i : ℕ) (s : Segment) (part : List ℕ)
-    → IsMapOf o.segments load_map → i < length o.segments → s ≡ get_or o.segments i s → words ≡ words_of l p m o
-    → AllZip (IsPart l p m o) (take i load_map) image
+pub part_more : (l : Linkage) (p : Placing) (load_map : List MapEntry) (m : ℕ) (o : Object) (unbound : List Bool) (words : List LinkWord) (image : List (List ℕ)) (i : ℕ) (s : Segment) (part : List ℕ)
+    → IsMapOf o.segments load_map → i < length o.segments → s ≡ get_or o.segments i s → words ≡ words_of l p m o unbound
+    → AllZip (IsPart l p m o unbound) (take i load_map) image
     → length part ≡ s.memsz → ((j : ℕ) → j < s.memsz → slice_index part j ≡ byte_over words (file_byte o.segments) (s.vaddr + j))
-    → AllZip (IsPart l p m o) (take (i + 1) load_map) (image ++ part ∷ [])
-part_more l p load_map m o words image i s part mapped lt at all before size bytes =
-    let R = IsPart l p m o in
+    → AllZip (IsPart l p m o unbound) (take (i + 1) load_map) (image ++ part ∷ [])
+part_more l p load_map m o unbound words image i s part mapped lt at all before size bytes =
+    let R = IsPart l p m o unbound in
     let d : MapEntry = record { addr = 0; vaddr = 0; memsz = 0 } in
     let e = get_or load_map i d in
     let same = zip-get_or (λ t f. (f.vaddr ≡ t.vaddr) × (f.memsz ≡ t.memsz)) o.segments load_map i s d mapped lt in
@@ -41,14 +41,14 @@ part_more l p load_map m o words image i s part mapped lt at all before size byt
     let is_part : R e part = record {
       len = size ∙ sym memsz;
       bytes = λ j in'. bytes j (omega arith) ∙ ap (λ ws. byte_over ws (file_byte o.segments) (s.vaddr + j)) all
-          ∙ ap (λ n. image_of l p m o (n + j)) (sym vaddr);
+          ∙ ap (λ n. image_of l p m o unbound (n + j)) (sym vaddr);
     } in
     let P : List MapEntry → Type 0 = λ es. AllZip R es (image ++ part ∷ []) in
     subst P (sym (take_more load_map i d within)) (zip_push R (take i load_map) image e part before is_part)
 
-pub all_parts : (l : Linkage) (p : Placing) (load_map : List MapEntry) (m : ℕ) (o : Object) (image : List (List ℕ)) (i : ℕ)
-    → IsMapOf o.segments load_map → length o.segments ≤ i → AllZip (IsPart l p m o) (take i load_map) image → IsImage l p m o load_map image
-all_parts l p load_map m o image i mapped le all =
+pub all_parts : (l : Linkage) (p : Placing) (load_map : List MapEntry) (m : ℕ) (o : Object) (unbound : List Bool) (image : List (List ℕ)) (i : ℕ)
+    → IsMapOf o.segments load_map → length o.segments ≤ i → AllZip (IsPart l p m o unbound) (take i load_map) image → IsImage l p m o unbound load_map image
+all_parts l p load_map m o unbound image i mapped le all =
     let within : length load_map ≤ i = omega (arith, zip_length (λ t f. (f.vaddr ≡ t.vaddr) × (f.memsz ≡ t.memsz)) o.segments load_map mapped) in
-    let P : List MapEntry → Type 0 = λ es. AllZip (IsPart l p m o) es image in
+    let P : List MapEntry → Type 0 = λ es. AllZip (IsPart l p m o unbound) es image in
     subst P (take_all i load_map within) all

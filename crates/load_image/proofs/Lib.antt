@@ -4,5 +4,6 @@ pub mod ImageFrame
 pub mod ImageParts
 pub mod ModuleItems
 pub mod SiteValues
+pub mod SlotPairWords
 pub mod StandingWords
 pub mod WrittenWords

@@ -1,5 +1,5 @@
 -- What stands in an image.
-use Rattle.std.proofs.Common.{◌≡◌, ℕ, ◌+◌, ◌-◌, ◌<◌, ◌≤◌, ◌⊎◌, inl, inr, List, [], ◌∷◌, ◌++◌, map, get_or, slice_index, Some, None, Ok, Err, Result, refl, sym, ap, subst, ◌∙◌, arith, All, AllPairs}
+use Rattle.std.proofs.Common.{◌≡◌, ℕ, ◌+◌, ◌-◌, ◌<◌, ◌≤◌, ◌⊎◌, inl, inr, Bool, List, [], ◌∷◌, ◌++◌, map, get_or, slice_index, Some, None, Ok, Err, Result, refl, sym, ap, subst, ◌∙◌, arith, All, AllPairs}
 use Rattle.std.specs.Prelude.{Contains}
 use Rattle.std.specs.List.{flat_map}
 use Rattle.std.specs.Int.{w32, to_le_bytes}
@@ -7,22 +7,24 @@ use Rattle.std.proofs.lemmas.Bool.{cond-true, cond-false}
 use Rattle.std.proofs.lemmas.List.Elements.{All-nil, All-cons, All-head, All-tail, All-append, All-contains}
 use Rattle.fd_base.proofs.Lists.{all_front, all_back, pairs_tail, pairs_head}
 use Rattle.elf_model.specs.declared.table.Site.{Site}
+use Rattle.elf_model.specs.declared.filled.FilledSite.{FilledSite}
 use Rattle.elf_model.specs.declared.object.Object.{Object}
 use Rattle.elf_model.specs.declared.object.Rel.{Rel}
 use Rattle.elf_model.specs.Relocations.{got_header}
-use Rattle.elf_model.specs.Places.{file_byte, site_of_rel, filled_ranges}
+use Rattle.elf_model.specs.Places.{file_byte, filled_ranges}
 use Rattle.elf_model.specs.Sound.{IsSound, RangesApart}
 use Rattle.load_model.specs.declared.error.LoadRefusal.{LoadRefusal}
 use Rattle.load_model.specs.declared.layout.TheConstants.{RESOLVER}
 use Rattle.load_model.specs.declared.meaning.SiteValue.{SiteValue}
-use Rattle.load_model.specs.declared.meaning.SiteValue.TheVariants.{Place, Formula, Pair, Descriptor}
+use Rattle.load_model.specs.declared.meaning.SiteValue.TheVariants.{Place, Formula, Pair, Stub, Descriptor}
 use Rattle.load_model.specs.declared.words.LinkWord.{LinkWord}
 use Rattle.load_model.specs.Definition.{Linkage}
-use Rattle.load_model.specs.Image.{Placing, load_map_at, place_of, got_of, word_at, pair_at, is_in_word, byte_over, got_words, image_of, value_words, words_for, words_of}
-use Rattle.load_model.specs.Sites.{site_value}
-use Rattle.elf_model.specs.Filled.{site_relocations}
+use Rattle.load_model.specs.Image.{Placing, place_of, got_of, word_at, pair_at, is_in_word, byte_over, got_words, image_of, value_words, words_for, words_of}
+use Rattle.load_model.specs.Unbound.{standing_value}
+use Rattle.elf_model.specs.Filled.{sites_of}
+use Rattle.load_map.specs.Translation.{placed}
 use Rattle.load_image.specs.parts.Laws.{HasWord, IsOffSite}
-use Rattle.load_image.proofs.FilledRanges.{InSite, ranges_are, words_in, header_in, site_words, all_site_words, all_words}
+use Rattle.load_image.proofs.FilledRanges.{InSite, IsWide, range_of, ranges_are, slots_wide, words_in, header_in, site_words, all_site_words, all_words}
 use Rattle.load_image.proofs.WrittenWords.{is_in, is_off}
 
 -- ---- words that lie apart
@@ -74,11 +76,11 @@ one_apart w = (All-nil (WordsApart w), tt)
 two_apart : (w x : LinkWord) → w.addr + 4 ≤ x.addr → Apart (w ∷ x ∷ [])
 two_apart w x le = (All-cons (WordsApart w) x [] (inl le) (All-nil (WordsApart w)), one_apart x)
 
-header_apart : (number got : ℕ) → Apart (got_words number got)
-header_apart number got =
+header_apart : (p : Placing) (number got : ℕ) → Apart (got_words p number got)
+header_apart p number got =
     let first : LinkWord = record { addr = got; value = RESOLVER } in
     let second : LinkWord = record { addr = got + 4; value = number } in
-    let third : LinkWord = record { addr = got + 8; value = load_map_at number } in
+    let third : LinkWord = record { addr = got + 8; value = p.load_maps number } in
     let one : WordsApart first second = inl (omega arith) in
     let two : WordsApart first third = inl (omega arith) in
     (All-cons (WordsApart first) second (third ∷ []) one (All-cons (WordsApart first) third [] two (All-nil (WordsApart first))), two_apart second third (omega arith))
@@ -95,6 +97,7 @@ value_apart p m o r (Place f) = word_apart r.site 0
 value_apart p m o r (Formula v) = word_apart r.site 0
 value_apart p m o r (Pair None) = pair_apart r.site 0 0
 value_apart p m o r (Pair (Some f)) = pair_apart r.site (place_of p f) (got_of p f.module)
+value_apart p m o r (Stub z) = pair_apart r.site (placed (p.maps m) z) (got_of p m)
 value_apart p m o r (Descriptor None) = word_apart r.site 0
 value_apart p m o r (Descriptor (Some f)) = word_apart r.site 0
 
@@ -107,54 +110,60 @@ apart_in : (s t : Site) (w x : LinkWord) → RangesApart s t → InSite s w → 
 apart_in s t w x apart here there = elim apart [ inl h ↦ inl (omega (arith, here.below, there.above)) | inr h ↦ inr (omega (arith, here.above, there.below)) ]
 
 -- words of one range, and those of sites apart from it
-cross : (l : Linkage) (p : Placing) (m : ℕ) (o : Object) (s : Site) (ws : List LinkWord) (rs : List Rel) → All (InSite s) ws → All (RangesApart s) (map site_of_rel rs)
-    → All (λ w. All (WordsApart w) (site_words l p m o rs)) ws
-cross l p m o s ws rs here apart = λ k d lt.
-    all_site_words l p m o (RangesApart s) (WordsApart (get_or ws k d)) (λ t x is at. apart_in s t (get_or ws k d) x is (here k d lt) at) rs apart
+cross : (l : Linkage) (p : Placing) (m : ℕ) (o : Object) (unbound : List Bool) (s : Site) (ws : List LinkWord) (ss : List FilledSite) → All IsWide ss → All (InSite s) ws
+    → All (RangesApart s) (map range_of ss) → All (λ w. All (WordsApart w) (site_words l p m o unbound ss)) ws
+cross l p m o unbound s ws ss wide here apart = λ k d lt.
+    all_site_words l p m o unbound (RangesApart s) (WordsApart (get_or ws k d)) (λ t x is at. apart_in s t (get_or ws k d) x is (here k d lt) at) ss wide apart
 
-sites_apart : (l : Linkage) (p : Placing) (m : ℕ) (o : Object) (rs : List Rel) → AllPairs RangesApart (map site_of_rel rs) → Apart (site_words l p m o rs)
-sites_apart l p m o [] pairs = tt
-sites_apart l p m o (r ∷ rs) pairs =
-    apart_append (words_for p m o r (site_value l m o r)) (site_words l p m o rs)
-    (result_apart p m o r (site_value l m o r))
-    (sites_apart l p m o rs (pairs_tail RangesApart (site_of_rel r) (map site_of_rel rs) pairs))
-    (cross l p m o (site_of_rel r) (words_for p m o r (site_value l m o r)) rs (words_in l p m o r) (pairs_head RangesApart (site_of_rel r) (map site_of_rel rs) pairs))
+sites_apart : (l : Linkage) (p : Placing) (m : ℕ) (o : Object) (unbound : List Bool) (ss : List FilledSite) → All IsWide ss → AllPairs RangesApart (map range_of ss)
+    → Apart (site_words l p m o unbound ss)
+sites_apart l p m o unbound [] wide pairs = tt
+sites_apart l p m o unbound (s ∷ ss) wide pairs =
+    let here = words_for p m o s.rel (standing_value l m o unbound s) in
+    let rest = All-tail IsWide s ss wide in
+    apart_append here (site_words l p m o unbound ss)
+    (result_apart p m o s.rel (standing_value l m o unbound s))
+    (sites_apart l p m o unbound ss rest (pairs_tail RangesApart (range_of s) (map range_of ss) pairs))
+    (cross l p m o unbound (range_of s) here ss rest (words_in l p m o unbound s (All-head IsWide s ss wide)) (pairs_head RangesApart (range_of s) (map range_of ss) pairs))
 
-words_apart : (l : Linkage) (p : Placing) (m : ℕ) (o : Object) → AllPairs RangesApart (filled_ranges o) → Apart (words_of l p m o)
-words_apart l p m o distinct =
+words_apart : (l : Linkage) (p : Placing) (m : ℕ) (o : Object) (unbound : List Bool) → IsSound o → Apart (words_of l p m o unbound)
+words_apart l p m o unbound sound =
     let P : List Site → Type 0 = λ ss. AllPairs RangesApart ss in
-    let pairs = subst P (sym (ranges_are o)) distinct in
-    let sites = map site_of_rel (site_relocations o) in
-    apart_append (got_words m o.got) (site_words l p m o (site_relocations o))
-    (header_apart m o.got)
-    (sites_apart l p m o (site_relocations o) (pairs_tail RangesApart (got_header o.got) sites pairs))
-    (cross l p m o (got_header o.got) (got_words m o.got) (site_relocations o) (header_in m o.got) (pairs_head RangesApart (got_header o.got) sites pairs))
+    let pairs = subst P (sym (ranges_are o)) sound.distinct in
+    let ranges = map range_of (sites_of o) in
+    let wide = slots_wide o sound in
+    apart_append (got_words p m o.got) (site_words l p m o unbound (sites_of o))
+    (header_apart p m o.got)
+    (sites_apart l p m o unbound (sites_of o) wide (pairs_tail RangesApart (got_header o.got) ranges pairs))
+    (cross l p m o unbound (got_header o.got) (got_words p m o.got) (sites_of o) wide (header_in p m o.got) (pairs_head RangesApart (got_header o.got) ranges pairs))
 
 -- ---- the law
 
-all_stand : (l : Linkage) (p : Placing) (m : ℕ) (o : Object) → IsSound o → All (HasWord (image_of l p m o)) (words_of l p m o)
-all_stand l p m o sound = stands (words_of l p m o) (file_byte o.segments) (words_apart l p m o sound.distinct)
+all_stand : (l : Linkage) (p : Placing) (m : ℕ) (o : Object) (unbound : List Bool) → IsSound o → All (HasWord (image_of l p m o unbound)) (words_of l p m o unbound)
+all_stand l p m o unbound sound = stands (words_of l p m o unbound) (file_byte o.segments) (words_apart l p m o unbound sound)
 
-of_each : (P : LinkWord → Type 0) (g : Rel → List LinkWord) (rs : List Rel) → All P (flat_map g rs) → All (λ r. All P (g r)) rs
-of_each P g [] all = All-nil (λ r. All P (g r))
-of_each P g (r ∷ rs) all = All-cons (λ q. All P (g q)) r rs (all_front P (g r) (flat_map g rs) all) (of_each P g rs (all_back P (g r) (flat_map g rs) all))
+of_each : (P : LinkWord → Type 0) (g : FilledSite → List LinkWord) (ss : List FilledSite) → All P (flat_map g ss) → All (λ s. All P (g s)) ss
+of_each P g [] all = All-nil (λ s. All P (g s))
+of_each P g (s ∷ ss) all = All-cons (λ t. All P (g t)) s ss (all_front P (g s) (flat_map g ss) all) (of_each P g ss (all_back P (g s) (flat_map g ss) all))
 
-pub site_stands : (l : Linkage) (p : Placing) (m : ℕ) (o : Object) (r : Rel) (value : SiteValue) → IsSound o → Contains (site_relocations o) r → site_value l m o r ≡ Ok value
-    → All (HasWord (image_of l p m o)) (value_words p m o r value)
-site_stands l p m o r value sound in' is =
-    let P = HasWord (image_of l p m o) in
-    let Q : Result SiteValue LoadRefusal → Type 0 = λ v. All P (words_for p m o r v) in
-    let g : Rel → List LinkWord = λ q. words_for p m o q (site_value l m o q) in
-    let each = of_each P g (site_relocations o) (all_back P (got_words m o.got) (site_words l p m o (site_relocations o)) (all_stand l p m o sound)) in
-    subst Q is (All-contains (λ q. All P (g q)) (site_relocations o) r each in')
+pub site_stands : (l : Linkage) (p : Placing) (m : ℕ) (o : Object) (unbound : List Bool) (s : FilledSite) (value : SiteValue) → IsSound o → Contains (sites_of o) s
+    → standing_value l m o unbound s ≡ Ok value → All (HasWord (image_of l p m o unbound)) (value_words p m o s.rel value)
+site_stands l p m o unbound s value sound in' is =
+    let P = HasWord (image_of l p m o unbound) in
+    let Q : Result SiteValue LoadRefusal → Type 0 = λ v. All P (words_for p m o s.rel v) in
+    let g : FilledSite → List LinkWord = λ t. words_for p m o t.rel (standing_value l m o unbound t) in
+    let each = of_each P g (sites_of o) (all_back P (got_words p m o.got) (site_words l p m o unbound (sites_of o)) (all_stand l p m o unbound sound)) in
+    subst Q is (All-contains (λ t. All P (g t)) (sites_of o) s each in')
 
-pub header_stands : (l : Linkage) (p : Placing) (m : ℕ) (o : Object) → IsSound o → All (HasWord (image_of l p m o)) (got_words m o.got)
-header_stands l p m o sound = all_front (HasWord (image_of l p m o)) (got_words m o.got) (site_words l p m o (site_relocations o)) (all_stand l p m o sound)
+pub header_stands : (l : Linkage) (p : Placing) (m : ℕ) (o : Object) (unbound : List Bool) → IsSound o → All (HasWord (image_of l p m o unbound)) (got_words p m o.got)
+header_stands l p m o unbound sound =
+    all_front (HasWord (image_of l p m o unbound)) (got_words p m o.got) (site_words l p m o unbound (sites_of o)) (all_stand l p m o unbound sound)
 
-pub others_stay : (l : Linkage) (p : Placing) (m : ℕ) (o : Object) (v : ℕ) → All (IsOffSite v) (filled_ranges o) → image_of l p m o v ≡ file_byte o.segments v
-others_stay l p m o v outside =
-    untouched (words_of l p m o) (file_byte o.segments) v
-    (all_words l p m o (IsOffSite v) (λ w. (v < w.addr) ⊎ (w.addr + 4 ≤ v)) (λ s w is at. off s w is at) outside)
+pub others_stay : (l : Linkage) (p : Placing) (m : ℕ) (o : Object) (unbound : List Bool) (v : ℕ) → IsSound o → All (IsOffSite v) (filled_ranges o)
+    → image_of l p m o unbound v ≡ file_byte o.segments v
+others_stay l p m o unbound v sound outside =
+    untouched (words_of l p m o unbound) (file_byte o.segments) v
+    (all_words l p m o unbound (IsOffSite v) (λ w. (v < w.addr) ⊎ (w.addr + 4 ≤ v)) (λ s w is at. off s w is at) sound outside)
   where
     off : (s : Site) (w : LinkWord) → IsOffSite v s → InSite s w → (v < w.addr) ⊎ (w.addr + 4 ≤ v)
     off s w out at = elim out [ inl h ↦ inl (omega (arith, at.above)) | inr h ↦ inr (omega (arith, at.below)) ]

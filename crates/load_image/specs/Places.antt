@@ -3,7 +3,7 @@ use Rattle.std.specs.Prelude.{ℕ, List, Option, slice_get, option_and_then, map
 use Rattle.std.specs.Coded.{Coded, code_by, coded×, coded_list, coded_option, coded_ℕ}
 use Rattle.load_map.specs.declared.entry.MapEntry.{MapEntry}
 use Rattle.elf_model.specs.declared.func.Func.{Func}
-use Rattle.load_model.specs.Image.{Placing}
+use Rattle.load_model.specs.Image.{Placing, load_map_at}
 use Rattle.load_map.specs.Maps.{map_at}
 use Rattle.load_map.specs.Translation.{placed}
 use Rattle.load_image.specs.Addresses.{Addresses, addresses_code, addr_in}
@@ -33,7 +33,7 @@ abbrev pub got_in : List (Option ℕ) → ℕ → Option ℕ
 got_in gots m = option_and_then (λ place. place) (slice_get gots m)
 
 abbrev pub placing_in : PlaceTables → Placing
-placing_in t = record { maps = map_at t.maps; gots = got_in t.gots; descriptors = addr_in t.descriptors }
+placing_in t = record { maps = map_at t.maps; gots = got_in t.gots; load_maps = load_map_at; descriptors = addr_in t.descriptors }
 
 -- functions, each with the placed address of a link address of its own module
 abbrev pub placed_pairs_of : List (List MapEntry) → List (Func × ℕ) → List (Func × ℕ)

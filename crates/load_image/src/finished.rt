@@ -53,12 +53,14 @@ fn part(
     Ok(Seq::from_vec(bytes))
 }
 
-/// The bytes of each placed segment of module `m`, whose sites have these values.
+/// The bytes of each placed segment of module `m`, whose sites have these values, while slots with these flags are
+/// unbound.
 pub fn image(
     alloc: Global,
     places: &Places,
     m: u32,
     object: &Object,
+    unbound: &[bool],
     values: &[SiteValue],
 ) -> Result<Image, Memory>
     requires sound { IsSound object.now }
@@ -66,9 +68,9 @@ pub fn image(
     requires number { m < MAX_MODULES }
     requires values { FitSites object.now values.now }
     ensures { IfOk result (λ parts. (l : Linkage) → HasValues l m object.entry.now values.now
-        → IsImage l (placing_in places.now) m object.entry.now (map_at places.now.maps m) parts) }
+        → IsImage l (placing_in places.now) m object.entry.now unbound.now (map_at places.now.maps m) parts) }
 {
-    let words = words(alloc, places, m, object, values)?;
+    let words = words(alloc, places, m, object, unbound, values)?;
     let mut image = Seq::new(alloc);
     for segment in object.segments.as_slice() {
         image.push(part(alloc, object, segment, &words)?)?;

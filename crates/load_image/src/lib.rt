@@ -15,7 +15,7 @@ mod write;
 pub use descriptors::Descriptors;
 pub use filling::words;
 pub use finished::{Image, image};
-pub use laws::{images_agree, sites_hold_their_words};
+pub use laws::sites_hold_their_words;
 pub use pairs::{SitePair, placed_pairs};
 pub use places::Places;
 pub use segments::{items, load_map};

@@ -1,14 +1,10 @@
 -- Addresses that meet nothing.
-use Rattle.std.proofs.Common.{◌≡◌, ◌≢◌, ◌+◌, ◌-◌, ◌*◌, ◌/◌, ◌%◌, ◌<◌, ◌≤◌, inl, inr, List, [], ◌∷◌, Option, Some, None, sym, subst, ◌∙◌, arith}
+use Rattle.std.proofs.Common.{◌≢◌, inl, inr, List, [], ◌∷◌, Option, Some, None, sym, subst, ◌∙◌}
 use Rattle.std.specs.Prelude.{Contains}
-use Rattle.std.proofs.Math.Nat.{mod-eq-sub-div-mul, mod-lt, div-mul-le_self}
 use Rattle.std.proofs.lemmas.List.Elements.{All-contains}
 use Rattle.placement.specs.declared.item.Held.{Held}
 use Rattle.placement.specs.Legal.{Apart}
 use Rattle.placement.specs.Space.{AreApart}
-use Rattle.load_model.specs.declared.plan.MemPlan.{MemPlan}
-use Rattle.load_model.specs.Layout.{slots_end}
-use Rattle.load_model.specs.Plan.{low_of}
 use Rattle.fd_base.proofs.Members.{nothing_in, first_or_later}
 
 -- two ranges among those that meet nowhere
@@ -30,15 +26,6 @@ apart_two (first ∷ held) r q apart here there differ =
   where
     turned : (x y : Held) → Apart x.start x.len y → Apart y.start y.len x
     turned x y off = elim off [ inl h ↦ inr h | inr h ↦ inl h ]
-
--- the least address of modules lies behind the slots
-pub low_above : (plan : MemPlan) → slots_end plan ≤ low_of plan
-low_above plan =
-    let x = slots_end plan + 15 in
-    let rest : x % 16 ≡ x - x / 16 * 16 = mod-eq-sub-div-mul x 16 in
-    let small : x % 16 < 16 = mod-lt x (omega arith) in
-    let below : x / 16 * 16 ≤ x = div-mul-le_self x 16 in
-    omega (arith, rest, small, below)
 
 abbrev pub unwrapped : {X : Type 0} → X → Option X → X
 unwrapped d None = d

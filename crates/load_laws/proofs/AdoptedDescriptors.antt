@@ -142,7 +142,7 @@ adopted_means k maps joining f a there =
     }
 
 pub adoptions_free_lem : AdoptionsAreFree
-adoptions_free_lem l joining scope addrs maps adopted mods ranges had own free sound placed maps' adopted' = record {
+adoptions_free_lem l joining scope addrs maps adopted fits mods ranges had own free sound placed maps' adopted' = record {
   unused = λ f g a there. unused f g a (means f a there);
   no_slot = λ f a there. no_slot f a (means f a there);
   distinct = λ f g a first second. one f g a (means f a first) (means g a second);
@@ -191,7 +191,7 @@ adoptions_free_lem l joining scope addrs maps adopted mods ranges had own free s
 
     no_slot : (f : Func) (a : ℕ) → IsAdopted k maps joining f a → ¬ IsSlot (pool_of l.plan l.addrs) a
     no_slot f a x slot =
-        above_slots l.plan l.addrs (map_at maps x.joined.number) x.site (held f a x) (subst (λ (b : ℕ). IsSlot (pool_of l.plan l.addrs) b) x.place slot)
+        above_slots l.plan l.addrs (map_at maps x.joined.number) x.site fits (held f a x) (subst (λ (b : ℕ). IsSlot (pool_of l.plan l.addrs) b) x.place slot)
 
     unused : (f g : Func) (a : ℕ) → IsAdopted k maps joining f a → get l.addrs g ≢ Some a
     unused f g a x is =

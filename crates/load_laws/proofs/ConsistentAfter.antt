@@ -1,5 +1,5 @@
 -- Each part of what holds of a loader holds after a load.
-use Rattle.std.proofs.Common.{◌≡◌, ◌≢◌, ℕ, Bool, List, Option, sym, ap, subst, ◌∙◌, All}
+use Rattle.std.proofs.Common.{◌≡◌, ◌≢◌, ℕ, List, Option, sym, ap, subst, ◌∙◌, All}
 use Rattle.std.specs.FinMap.{get}
 use Rattle.std.specs.Option.{option_or}
 use Rattle.fd_base.proofs.Options.{or_stays}
@@ -8,6 +8,7 @@ use Rattle.elf_model.specs.Sound.{IsSound}
 use Rattle.placement.specs.declared.item.Item.{Item}
 use Rattle.placement.specs.Placed.{Placed}
 use Rattle.placement.specs.Space.{all_held}
+use Rattle.load_model.specs.Joined.{Asked}
 use Rattle.load_model.specs.Descriptors.{listed_addr}
 use Rattle.load_model.specs.Plan.{Fits, low_of, high_of}
 use Rattle.load_process.specs.parts.TakenObjects.{IsTaken}
@@ -19,7 +20,7 @@ use Rattle.load_state.specs.Loaded.{Loaded}
 use Rattle.load_map.specs.Maps.{map_at}
 use Rattle.load_laws.specs.parts.Grounds.{IsDone, IsGiven}
 use Rattle.load_laws.specs.parts.Premises.{HaveOwnNumbers, HasFreeNumber, IsExtended}
-use Rattle.load_laws.proofs.MemoryAfter.{images_stay_lem}
+use Rattle.load_laws.proofs.MemoryAfter.{images_after}
 use Rattle.load_laws.proofs.MapsAfter.{map_stays}
 use Rattle.load_laws.proofs.ModulesAfter.{modules_stay_lem}
 use Rattle.load_laws.proofs.RangesAfter.{ranges_stay_lem}
@@ -33,7 +34,7 @@ use Rattle.load_laws.proofs.NewNumbers.{own_numbers, unused_numbers, sound_of}
 use Rattle.load_laws.proofs.FreeSlots.{given_address, given_slot, given_unused}
 
 -- a plan of a consistent loader
-module _ (l : Loaded) (files : Option Files) (root : List ℕ) (asked : Bool) (plan : GroupPlan) (consistent : IsConsistent l)
+module _ (l : Loaded) (files : Option Files) (root : List ℕ) (asked : Asked) (plan : GroupPlan) (consistent : IsConsistent l)
     (planned : IsPlan l.modules files root asked plan) (taken : All (λ j. IsTaken j.object) plan.joining) where
   abbrev items : List Item
   items = all_items l.modules.plan.places plan.joining
@@ -44,12 +45,12 @@ module _ (l : Loaded) (files : Option Files) (root : List ℕ) (asked : Bool) (p
   -- no function and no slot has the address of a new module's own descriptor
   pub adoptable : AreAdoptable l.modules plan.adopted
   adoptable =
-      adoptions_free_lem l.modules plan.joining plan.scope plan.addrs plan.maps plan.adopted consistent.modules' consistent.ranges consistent.descriptors
+      adoptions_free_lem l.modules plan.joining plan.scope plan.addrs plan.maps plan.adopted consistent.fits consistent.modules' consistent.ranges consistent.descriptors
       (own_numbers l.modules files root asked plan planned) (unused_numbers l.modules files root asked plan planned) (sound_of plan.joining taken)
       placed_items planned.maps' planned.adopted'
 
 -- the plan is committed
-module _ (l new : Loaded) (files : Option Files) (root : List ℕ) (asked : Bool) (plan : GroupPlan) (consistent : IsConsistent l)
+module _ (l new : Loaded) (files : Option Files) (root : List ℕ) (asked : Asked) (plan : GroupPlan) (consistent : IsConsistent l)
     (planned : IsPlan l.modules files root asked plan) (taken : All (λ j. IsTaken j.object) plan.joining) (committed : IsCommitted l plan new) where
   own : HaveOwnNumbers plan.joining
   own = own_numbers l.modules files root asked plan planned
@@ -85,7 +86,7 @@ module _ (l new : Loaded) (files : Option Files) (root : List ℕ) (asked : Bool
 
   descriptors : HasDescriptors new.modules
   descriptors =
-      descriptors_stay_lem l.modules new.modules plan.joining plan.scope plan.addrs plan.adopted plan.given consistent.modules' consistent.ranges consistent.descriptors
+      descriptors_stay_lem l.modules new.modules plan.joining plan.scope plan.addrs plan.adopted plan.given consistent.fits consistent.modules' consistent.ranges consistent.descriptors
       ext own free sound placed committed.plan' maps' adopted' planned.given' committed.addrs'
 
   map_left : (m : ℕ) → All (λ j. j.number ≢ m) plan.joining → map_at new.modules.maps m ≡ map_at l.modules.maps m
@@ -120,7 +121,7 @@ module _ (l new : Loaded) (files : Option Files) (root : List ℕ) (asked : Bool
     ranges = ranges;
     descriptors = descriptors;
     laid_out = committed.laid_out;
-    images = images_stay_lem l new plan done consistent.images;
+    images = images_after l new plan done consistent.images;
     tables = tables_stay_lem l new plan done given consistent.descriptors consistent.tables;
   }
 

@@ -22,10 +22,10 @@ use Rattle.func_desc.specs.Pool.{IsSlot}
 use Rattle.load_map.specs.Whole.{LinkedApart, PlacedApart}
 use Rattle.load_map.proofs.Holding.{whole, distinct}
 use Rattle.load_model.specs.declared.plan.MemPlan.{MemPlan}
-use Rattle.load_model.specs.declared.plan.TheConstants.{DESCRIPTORS}
 use Rattle.load_model.specs.Definition.{Linkage}
 use Rattle.load_model.specs.Descriptors.{private_at}
-use Rattle.load_model.specs.Plan.{low_of}
+use Rattle.load_model.specs.Plan.{Fits, descriptors_at, low_of}
+use Rattle.load_model.proofs.PlanParts.{low_above, own_slots_below}
 use Rattle.load_state.specs.Consistent.{IsEntryOf}
 use Rattle.load_state.specs.Loaded.{pool_of}
 use Rattle.fd_base.proofs.Members.{map_in, contains_later}
@@ -121,13 +121,13 @@ private_held plan k m o es f site sound mapped own =
     }
 
 -- slots lie below the modules
-pub above_slots : (plan : MemPlan) (addrs : AddrMap) (es : List MapEntry) (site : ℕ) → IsHeldAt plan es site → ¬ IsSlot (pool_of plan addrs) (placed es site)
-above_slots plan addrs es site held slot =
+pub above_slots : (plan : MemPlan) (addrs : AddrMap) (es : List MapEntry) (site : ℕ) → Fits plan → IsHeldAt plan es site → ¬ IsSlot (pool_of plan addrs) (placed es site)
+above_slots plan addrs es site fits held slot =
     let low : low_of plan ≤ held.entry.addr = held.low in
     let above : held.entry.addr ≤ placed es site = held.above in
     let few : slot.0 < plan.descriptors = slot.1 in
-    let is : placed es site ≡ DESCRIPTORS + 8 * slot.0 = slot.2 in
-    let behind : DESCRIPTORS + 8 * plan.descriptors ≤ low_of plan = omega arith in
+    let is : placed es site ≡ descriptors_at plan + 8 * slot.0 = slot.2 in
+    let behind : descriptors_at plan + 8 * plan.descriptors ≤ low_of plan = omega (arith, own_slots_below plan fits, low_above plan) in
     absurd (omega arith)
 
 -- ---- one site has one function

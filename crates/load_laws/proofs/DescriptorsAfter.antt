@@ -46,7 +46,7 @@ live_with (Some live) o is = refl
 -- ---- the law
 
 pub descriptors_stay_lem : DescriptorsStay
-descriptors_stay_lem l new joining scope addrs adopted given mods ranges had ext own free sound placed plan' maps' adopted' given' addrs' = record {
+descriptors_stay_lem l new joining scope addrs adopted given fits mods ranges had ext own free sound placed plan' maps' adopted' given' addrs' = record {
   live = λ f a is. live f a (from f a is);
   own = own_address;
   places = λ f a none is. place f a none (from f a is);
@@ -60,7 +60,7 @@ descriptors_stay_lem l new joining scope addrs adopted given mods ranges had ext
     pool = pool_of l.plan l.addrs
 
     adoptable : AreAdoptable l adopted
-    adoptable = adoptions_free_lem l joining scope addrs new.maps adopted mods ranges had own free sound placed maps' adopted'
+    adoptable = adoptions_free_lem l joining scope addrs new.maps adopted fits mods ranges had own free sound placed maps' adopted'
 
     from : (f : Func) (a : ℕ) → get new.addrs f ≡ Some a → HasFrom (get l.addrs) adopted given f a
     from f a is = has_from (get l.addrs) adopted given f a (sym (addrs' f) ∙ is)

@@ -13,6 +13,7 @@ use Rattle.elf_model.specs.declared.func.Func.{Func}
 use Rattle.func_desc.specs.Pool.{IsSlot, free_slots}
 use Rattle.func_desc.proofs.Contained.{free_slots_free}
 use Rattle.symbol_scope.proofs.Growing.{All-with_new, once_more}
+use Rattle.load_model.specs.Joined.{Asked}
 use Rattle.load_model.specs.Definition.{Linkage}
 use Rattle.load_model.specs.Descriptors.{is_same_func, is_listed, listed_addr, descriptors_after, asked_of, privates, wanted}
 use Rattle.load_map.specs.Maps.{map_at}
@@ -84,7 +85,7 @@ module _ (k : Linkage) (before : Func → Option ℕ) (members : List Member) wh
 
 -- ---- the slots of a plan
 
-module _ (l : LoadedModules) (files : Option Files) (root : List ℕ) (asked : Bool) (plan : GroupPlan) (planned : IsPlan l files root asked plan) where
+module _ (l : LoadedModules) (files : Option Files) (root : List ℕ) (asked : Asked) (plan : GroupPlan) (planned : IsPlan l files root asked plan) where
   given_pair : (f : Func) (a : ℕ) → Contains plan.given (f, a) → IsPair (wanted_by l plan.joining plan.scope) (free_slots (pool_of l.plan l.addrs)) f a
   given_pair f a there =
       in_zip (wanted_by l plan.joining plan.scope) (free_slots (pool_of l.plan l.addrs)) f a (subst (λ (es : List (Func × ℕ)). Contains es (f, a)) planned.given' there)

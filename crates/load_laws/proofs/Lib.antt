@@ -1,12 +1,13 @@
 pub mod AddressesApart
 pub mod AdoptedDescriptors
+pub mod BoundPrograms
 pub mod ConsistentAfter
 pub mod DescriptorPlaces
 pub mod DescriptorsAfter
 pub mod Extension
 pub mod FreeSlots
 pub mod GivenSlots
-pub mod ImagesAfter
+pub mod ImageFrame
 pub mod ListMembers
 pub mod ListedDescriptors
 pub mod MapsAfter
@@ -17,6 +18,7 @@ pub mod NewLoaders
 pub mod NewNumbers
 pub mod OwnDescriptors
 pub mod OwnSites
+pub mod PlacesAlike
 pub mod PlansDetermined
 pub mod RangesAfter
 pub mod SameBytes
@@ -25,5 +27,5 @@ pub mod SameLoads
 pub mod SameMemories
 pub mod SameModules
 pub mod SegmentsApart
-pub mod SiteNames
+pub mod SlotFunctions
 pub mod TablesAfter

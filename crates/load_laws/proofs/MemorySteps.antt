@@ -12,9 +12,11 @@ use Rattle.load_map.specs.Image as map_image
 use Rattle.load_model.specs.declared.layout.TheConstants.{RESOLVER, STUBS_END, THREAD_END, LOAD_MAPS, LOAD_MAP_SIZE}
 use Rattle.load_model.specs.declared.plan.MemPlan.{MemPlan}
 use Rattle.load_model.specs.declared.plan.TheConstants.{DESCRIPTOR_SIZE}
+use Rattle.load_model.specs.Plan.{slots_end}
+use Rattle.load_model.proofs.PlanParts.{own_slots_below}
 use Rattle.load_model.specs.Image.{load_map_at}
 use Rattle.load_map.specs.Maps.{map_at}
-use Rattle.load_model.specs.Layout.{HasLoadMap, fixed_kind, slots_end}
+use Rattle.load_model.specs.Layout.{HasLoadMap, fixed_kind}
 use Rattle.load_model.specs.Process.{object_at}
 use Rattle.load_map.proofs.Imaged.{length-bytes_of_map}
 use Rattle.load_memory.proofs.KeptLayout.{stores_keep-fixed, stores_keep-layout}
@@ -47,18 +49,18 @@ module _ (l : Loaded) (memory : GuestMemory) (c : IsConsistent l) (keeps : Keeps
       stores_keep-fixed l.modules.plan (in_memory l.modules.process l.modules.maps) l.memory memory a Fixed keeps c.laid_out (in_tables l.modules.plan a above below) (λ e. cc)
 
   in_map : (m i : ℕ) → m < 64 → i < LOAD_MAP_SIZE → byte_at memory (load_map_at m + i) ≡ byte_at l.memory (load_map_at m + i)
-  in_map m i few lt = table_stays (load_map_at m + i) (omega arith) (omega arith)
+  in_map m i few lt = table_stays (load_map_at m + i) (omega arith) (omega (arith, few, lt, c.fits.some_processes))
 
   in_slot : (a i : ℕ) → IsSlot (pool_of l.modules.plan l.modules.addrs) a → i < DESCRIPTOR_SIZE → byte_at memory (a + i) ≡ byte_at l.memory (a + i)
-  in_slot a i slot lt = table_stays (a + i) (omega (arith, slot.2)) (omega (arith, slot.1, slot.2))
+  in_slot a i slot lt = table_stays (a + i) (omega (arith, slot.2)) (omega (arith, slot.1, slot.2, own_slots_below l.modules.plan c.fits))
 
   -- ---- what the memory holds
 
   images_hold : HoldsImages later
   images_hold = record {
-    bytes = λ m o k e live at i lt watched.
+    bytes = λ m o live k e at i lt watched.
         let was : is_watched l.memory (e.addr + i) ≡ true = sym (is_watched-same l.memory memory (e.addr + i) keeps.kinds keeps.marks) ∙ watched in
-        keeps.bytes (e.addr + i) (inl was) ∙ c.images.bytes m o k e live at i lt was;
+        keeps.bytes (e.addr + i) (inl was) ∙ c.images.bytes m o live k e at i lt was;
   }
 
   short : (m : ℕ) (o : Object) → object_at l.modules.process m ≡ Some o → length (map_image.bytes_of_map (map_at l.modules.maps m)) ≤ LOAD_MAP_SIZE

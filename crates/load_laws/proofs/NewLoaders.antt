@@ -19,12 +19,11 @@ use Rattle.load_memory.specs.parts.Modules.{nothing}
 use Rattle.load_model.specs.declared.layout.TheConstants.{RESOLVER, STUBS_END}
 use Rattle.load_model.specs.declared.module.Live.{Live}
 use Rattle.load_model.specs.declared.plan.MemPlan.{MemPlan}
-use Rattle.load_model.specs.declared.plan.TheConstants.{DESCRIPTORS}
 use Rattle.load_model.specs.Descriptors.{listed_addr, privates_of}
 use Rattle.load_model.specs.Image.{load_map_at}
 use Rattle.load_model.specs.Layout.{IsLaidOut}
 use Rattle.load_model.specs.Linkage.{linkage_of}
-use Rattle.load_model.specs.Plan.{Fits}
+use Rattle.load_model.specs.Plan.{Fits, descriptors_at}
 use Rattle.load_model.specs.Process.{object_at}
 use Rattle.load_map.specs.Maps.{map_at}
 use Rattle.load_process.proofs.EmptyProcess.{empty_valid}
@@ -45,7 +44,7 @@ module _ (plan : MemPlan) (l : LoadedModules) (starts : l ≡ start_of plan) whe
   no_object : (m : ℕ) → object_at l.process m ≡ None
   no_object m = ap (λ (k : LoadedModules). object_at k.process m) starts ∙ ap (option_map (λ (live : Live). live.object)) (at_place-none MAX_MODULES m)
 
-  not_live : (m : ℕ) (o : Object) → object_at l.process m ≢ Some o
+  pub not_live : (m : ℕ) (o : Object) → object_at l.process m ≢ Some o
   not_live m o is = let none = no_object m in cc
 
   no_map : (m : ℕ) → map_at l.maps m ≡ []
@@ -113,7 +112,7 @@ module _ (plan : MemPlan) (l : Loaded) (new : IsNew plan l) where
     slots = λ f a is. absurd (no_address plan mods new.starts f a is);
     free = λ a there i lt.
         let slot = free_slots_free.slots (pool_of mods.plan mods.addrs) a there in
-        let at : a ≡ DESCRIPTORS + 8 * slot.0 = slot.2 in
+        let at : a ≡ descriptors_at mods.plan + 8 * slot.0 = slot.2 in
         above_stubs (a + i) (omega arith);
   }
 
@@ -127,7 +126,7 @@ module _ (plan : MemPlan) (l : Loaded) (new : IsNew plan l) where
     ranges = no_ranges plan mods new.starts;
     descriptors = no_descriptors plan mods new.starts;
     laid_out = subst (λ (p : MemPlan). IsLaidOut p (in_memory mods.process mods.maps) l.memory) (sym same_plan) new.laid_out;
-    images = record { bytes = λ m o k e is. absurd (not_live plan mods new.starts m o is) };
+    images = record { bytes = λ m o is. absurd (not_live plan mods new.starts m o is) };
     tables = only_stubs;
   }
 

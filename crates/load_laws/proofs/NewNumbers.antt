@@ -1,9 +1,10 @@
 -- The numbers and the objects of new modules.
-use Rattle.std.proofs.Common.{◌≡◌, ◌≢◌, ℕ, suc, ◌<◌, Bool, List, [], ◌∷◌, Option, None, sym, ap, arith, All}
+use Rattle.std.proofs.Common.{◌≡◌, ◌≢◌, ℕ, suc, ◌<◌, List, [], ◌∷◌, Option, None, sym, ap, arith, All}
 use Rattle.std.specs.Prelude.{AllPairs, option_map}
 use Rattle.fd_base.specs.Fetched.{Files}
 use Rattle.elf_model.specs.Sound.{IsSound}
 use Rattle.symbol_scope.specs.declared.tables.TheConstants.{MAX_MODULES}
+use Rattle.load_model.specs.Joined.{Asked}
 use Rattle.load_model.specs.declared.module.Joining.{Joining}
 use Rattle.load_model.specs.declared.module.SymbolicProcess.{SymbolicProcess}
 use Rattle.load_model.specs.Process.{live_at}
@@ -29,7 +30,7 @@ free_of p joining small none k d lt = (small k d lt, ap (option_map (λ live. li
 pub sound_of : (joining : List Joining) → All (λ j. IsTaken j.object) joining → All (λ j. IsSound j.object) joining
 sound_of joining taken k d lt = (taken k d lt).sound
 
-module _ (l : LoadedModules) (files : Option Files) (root : List ℕ) (asked : Bool) (plan : GroupPlan) (planned : IsPlan l files root asked plan) where
+module _ (l : LoadedModules) (files : Option Files) (root : List ℕ) (asked : Asked) (plan : GroupPlan) (planned : IsPlan l files root asked plan) where
   pub free_numbers_of : HasFreeNumbers l.process plan.joining
   free_numbers_of =
       let names = planned.scoped.names in

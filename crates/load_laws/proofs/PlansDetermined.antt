@@ -9,7 +9,7 @@ use Rattle.placement.proofs.Placing.{placed_once, fails_once, placed_or_fails}
 use Rattle.load_model.specs.declared.error.LoadRefusal.{LoadRefusal}
 use Rattle.load_model.specs.declared.error.LoadRefusal.TheVariants.{NotBuilt, Elf, NoFile, TooLong, TooManyModules, Unresolved, NotCode, DescriptorsFull, NoRoom, BadAddress}
 use Rattle.load_model.specs.declared.module.Joining.{Joining}
-use Rattle.load_model.specs.Joined.{global_after}
+use Rattle.load_model.specs.Joined.{Asked, flags_of, global_after}
 use Rattle.load_model.specs.Linkage.{closure_of, scope_with, members_of}
 use Rattle.load_model.specs.Plan.{low_of, high_of}
 use Rattle.load_model.specs.Sites.{first_refusal}
@@ -17,7 +17,7 @@ use Rattle.load_model.specs.Walk.{IsWalkRefused, number_among}
 use Rattle.load_process.proofs.WalksDetermined.{walks_are_determined}
 use Rattle.func_desc.specs.Pool.{free_slots}
 use Rattle.load_state.specs.declared.plan.GroupPlan.{GroupPlan}
-use Rattle.load_state.specs.Accepted.{IsPlan, IsScoped, linkage_for, CanBeFilled, wanted_by, all_items, maps_after, adopted_by, given_by}
+use Rattle.load_state.specs.Accepted.{IsPlan, IsScoped, linkage_for, CanBeFilled, wanted_by, all_items, maps_after, adopted_by, given_by, tables_of, targets_for}
 use Rattle.load_state.specs.parts.Determined.{SamePlan, PlansAreDetermined}
 use Rattle.load_state.specs.Loaded.{LoadedModules, pool_of}
 use Rattle.load_state.specs.Refused.{IsRefused, HasUnfilledSite, LacksSlots, HasNoPlace}
@@ -106,7 +106,7 @@ one_cause l told root r q (Placing i e h) (Placing j f k) =
     subst (λ (x : List Joining). FailsAt (low_of l.plan) (high_of l.plan) l.held (all_items l.plan.places x) i) same.0 h.fails in
     e ∙ ap NoRoom (fails_once (low_of l.plan) (high_of l.plan) l.held (all_items l.plan.places k.joining) i j here k.fails) ∙ sym f
 
-plan_or_cause : (l : LoadedModules) (told : Files) (root : List ℕ) (asked : Bool) (g : GroupPlan) (r : LoadRefusal) → IsPlan l (Some told) root asked g → Cause l (Some told) root r → ⊥
+plan_or_cause : (l : LoadedModules) (told : Files) (root : List ℕ) (asked : Asked) (g : GroupPlan) (r : LoadRefusal) → IsPlan l (Some told) root asked g → Cause l (Some told) root r → ⊥
 plan_or_cause l told root asked g r p (Walking h) = walked_or_not l told root g.joining g.scope r p.scoped h
 plan_or_cause l told root asked g r p (Filling h) = filled_or_not l told root g.joining g.scope r p.scoped p.filled h
 plan_or_cause l told root asked g r p (Giving n e h) = enough_or_not l told root g.joining g.scope n p.scoped p.enough h
@@ -118,12 +118,16 @@ plan_or_cause l told root asked g r p (Placing i e h) =
 
 -- ---- one plan
 
-same_plan : (l : LoadedModules) (told : Files) (root : List ℕ) (asked : Bool) (g h : GroupPlan) → IsPlan l (Some told) root asked g → IsPlan l (Some told) root asked h → SamePlan g h
+same_plan : (l : LoadedModules) (told : Files) (root : List ℕ) (asked : Asked) (g h : GroupPlan) → IsPlan l (Some told) root asked g → IsPlan l (Some told) root asked h → SamePlan g h
 same_plan l told root asked g h p q = record {
   root' = one_value (number_among l.process g.joining root) g.root h.root p.root' (ap (λ (x : List Joining). number_among l.process x root) joining ∙ q.root');
   joining' = joining;
   scope' = scope;
-  global' = p.global' ∙ ap (global_after l.process asked) scope ∙ sym q.global';
+  global' = p.global' ∙ ap (global_after l.process asked.global) scope ∙ sym q.global';
+  lazy' = lazy;
+  unbound' = p.unbound' ∙ ap (λ (b : Bool). flags_of b g.joining) lazy ∙ ap (flags_of h.lazy) joining ∙ sym q.unbound';
+  targets' = p.targets' ∙ ap (λ (x : List Joining). targets_for l x g.scope) joining ∙ ap (targets_for l h.joining) scope ∙ sym q.targets';
+  tables' = p.tables' ∙ ap tables_of joining ∙ sym q.tables';
   addrs' = addrs;
   maps' = maps;
   adopted' = p.adopted'
@@ -142,6 +146,9 @@ same_plan l told root asked g h p q = record {
 
     scope : g.scope ≡ h.scope
     scope = both.1
+
+    lazy : g.lazy ≡ h.lazy
+    lazy = p.lazy' ∙ sym q.lazy'
 
     items : g.items ≡ h.items
     items = p.items' ∙ ap (all_items l.plan.places) joining ∙ sym q.items'

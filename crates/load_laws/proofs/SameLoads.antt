@@ -1,5 +1,5 @@
 -- Two loads of one program come to the same.
-use Rattle.std.proofs.Common.{◌≡◌, ◌≢◌, ℕ, ◌-◌, ◌<◌, true, false, List, Some, ap, sym, subst, ◌∙◌, arith}
+use Rattle.std.proofs.Common.{◌≡◌, ◌≢◌, ℕ, ◌-◌, ◌<◌, Bool, true, List, Some, ap, sym, subst, ◌∙◌, arith}
 use Rattle.std.specs.FinMap.{get, same_map}
 use Rattle.std.specs.Prelude.{Contains, slice_get}
 use Rattle.load_map.specs.declared.entry.MapEntry.{MapEntry}
@@ -26,7 +26,7 @@ use Rattle.load_state.specs.Accepted.{IsPlan, all_items}
 use Rattle.load_state.specs.Committed.{IsCommitted, IsElsewhere}
 use Rattle.load_state.specs.parts.Determined.{SamePlan, LoadsAreDetermined}
 use Rattle.load_state.specs.Loaded.{Loaded, LoadedModules, in_memory, placing_of}
-use Rattle.load_state.specs.ProgramLoad.{IsProgramLoaded, start_of}
+use Rattle.load_state.specs.ProgramLoad.{IsProgramLoaded, eager, start_of}
 use Rattle.load_laws.proofs.SameCertain.{never_passes, one_number}
 use Rattle.load_laws.proofs.SameMemories.{one_memory}
 use Rattle.load_laws.proofs.SameModules.{same_modules}
@@ -83,13 +83,13 @@ module _ (base : Loaded) (m n : GuestMemory) (s t : Loaded) (g h : GroupPlan) (c
 -- ---- what is loaded
 
 -- a program is planned where nothing is loaded
-plan_at_start : (plan : MemPlan) (told : Files) (name : List ℕ) (l : Loaded) (p : IsProgramLoaded plan told name l) → IsPlan (start_of plan) (Some told) name false p.group
-plan_at_start plan told name l p = subst (λ (k : LoadedModules). IsPlan k (Some told) name false p.group) p.fresh.starts p.planned
+plan_at_start : (plan : MemPlan) (told : Files) (name : List ℕ) (l : Loaded) (p : IsProgramLoaded plan told name l) → IsPlan (start_of plan) (Some told) name eager p.group
+plan_at_start plan told name l p = subst (λ (k : LoadedModules). IsPlan k (Some told) name eager p.group) p.fresh.starts p.planned
 
 module _ (plan : MemPlan) (told : Files) (name : List ℕ) (l k : Loaded) (p : IsProgramLoaded plan told name l) (q : IsProgramLoaded plan told name k) where
   same : SamePlan p.group q.group
   same =
-      plans_determined.same_plan (start_of plan) told name false p.group q.group
+      plans_determined.same_plan (start_of plan) told name eager p.group q.group
       (plan_at_start plan told name l p) (plan_at_start plan told name k q)
 
   -- nothing is loaded before either
@@ -102,10 +102,11 @@ module _ (plan : MemPlan) (told : Files) (name : List ℕ) (l k : Loaded) (p : I
   process_is : l.modules.process ≡ k.modules.process
   process_is =
       p.committed.process'
-      ∙ ap (λ (x : SymbolicProcess). process_after x p.group.joining p.group.scope p.group.global) (ap (λ (m : LoadedModules). m.process) starts_is)
-      ∙ ap (λ (x : List Joining). process_after q.start.modules.process x p.group.scope p.group.global) same.joining'
-      ∙ ap (λ (x : List ℕ). process_after q.start.modules.process q.group.joining x p.group.global) same.scope'
-      ∙ ap (process_after q.start.modules.process q.group.joining q.group.scope) same.global'
+      ∙ ap (λ (x : SymbolicProcess). process_after x p.group.lazy p.group.joining p.group.scope p.group.global) (ap (λ (m : LoadedModules). m.process) starts_is)
+      ∙ ap (λ (x : Bool). process_after q.start.modules.process x p.group.joining p.group.scope p.group.global) same.lazy'
+      ∙ ap (λ (x : List Joining). process_after q.start.modules.process q.group.lazy x p.group.scope p.group.global) same.joining'
+      ∙ ap (λ (x : List ℕ). process_after q.start.modules.process q.group.lazy q.group.joining x p.group.global) same.scope'
+      ∙ ap (process_after q.start.modules.process q.group.lazy q.group.joining q.group.scope) same.global'
       ∙ sym q.committed.process'
 
   maps_is : l.modules.maps ≡ k.modules.maps
@@ -155,7 +156,7 @@ pub loads_determined : LoadsAreDetermined
 loads_determined = record {
   same = one_loaded;
   exclusive = λ plan told name l r p h.
-      plans_determined.exclusive (start_of plan) told name false p.group r
+      plans_determined.exclusive (start_of plan) told name eager p.group r
       (plan_at_start plan told name l p) h;
   same_refusal = λ plan told name r s h k. plans_determined.same_refusal (start_of plan) told name r s h k;
 }

@@ -15,6 +15,7 @@ use Rattle.func_desc.proofs.Contained.{free_slots_free}
 use Rattle.load_map.specs.Image as map_image
 use Rattle.load_model.specs.declared.layout.TheConstants.{RESOLVER, RESOLVER_WORDS, THREAD_END, END_WORDS, LOAD_MAP_SIZE}
 use Rattle.load_model.specs.declared.module.Joining.{Joining}
+use Rattle.load_model.specs.declared.plan.MemPlan.{MemPlan}
 use Rattle.load_model.specs.declared.plan.TheConstants.{DESCRIPTOR_SIZE}
 use Rattle.load_model.specs.Descriptors.{listed_addr, is_same_func}
 use Rattle.load_model.specs.Image.{load_map_at, place_of, got_of}
@@ -34,10 +35,11 @@ use Rattle.load_state.specs.Loaded.{Loaded, placing_of, pool_of}
 use Rattle.load_map.specs.Maps.{map_at}
 use Rattle.load_laws.specs.parts.Grounds.{IsDone, TablesStay}
 use Rattle.load_laws.specs.parts.Premises.{HasFreeNumber}
-use Rattle.load_laws.proofs.AddressesApart.{low_above, unwrapped}
+use Rattle.load_laws.proofs.AddressesApart.{unwrapped}
+use Rattle.load_model.proofs.PlanParts.{low_above, own_slots_below}
 use Rattle.fd_base.proofs.Ranges.{is_outside}
 use Rattle.load_laws.proofs.MemoryAfter.{alike}
-use Rattle.load_laws.proofs.ImagesAfter.{same_place, same_got}
+use Rattle.load_laws.proofs.PlacesAlike.{same_place, same_got}
 use Rattle.load_laws.proofs.ListedDescriptors.{same_decides}
 use Rattle.fd_base.proofs.Members.{contains_later, contains_first}
 use Rattle.load_laws.proofs.ModulesAfter.{old_number}
@@ -64,11 +66,11 @@ below_maps l new plan a done lt = record {
 -- an address in the load map of a number that nobody gets
 in_load_map : (l new : Loaded) (plan : GroupPlan) (m i : ℕ) → IsDone l plan new → m < 64 → i < LOAD_MAP_SIZE → All (λ j. j.number ≢ m) plan.joining → IsElsewhere plan (load_map_at m + i)
 in_load_map l new plan m i done few lt others = record {
-  segments = off_segments l new plan (load_map_at m + i) done (omega (arith, low_above l.modules.plan));
+  segments = off_segments l new plan (load_map_at m + i) done (omega (arith, done.fits.some_processes, low_above l.modules.plan));
   load_maps = λ j joins.
       let other : j.number ≢ m = All-contains (λ x. x.number ≢ m) plan.joining j others joins in
       is_outside (load_map_at j.number) LOAD_MAP_SIZE (load_map_at m + i) (off_map j.number other);
-  slots = λ f at there. let slot = done.slots f at there in is_outside at DESCRIPTOR_SIZE (load_map_at m + i) (inl (omega (arith, slot.2)));
+  slots = λ f at there. let slot = done.slots f at there in is_outside at DESCRIPTOR_SIZE (load_map_at m + i) (inl (omega (arith, done.fits.some_processes, slot.2)));
 }
   where
     off_map : (n : ℕ) → n ≢ m → (load_map_at m + i < load_map_at n) ⊎ (load_map_at n + LOAD_MAP_SIZE ≤ load_map_at m + i)
@@ -82,10 +84,10 @@ in_load_map l new plan m i done few lt others = record {
 in_slot : (l new : Loaded) (plan : GroupPlan) (a i : ℕ) → IsDone l plan new → IsSlot (pool_of l.modules.plan l.modules.addrs) a → i < DESCRIPTOR_SIZE
     → ((f : Func) (at : ℕ) → Contains plan.given (f, at) → at ≢ a) → IsElsewhere plan (a + i)
 in_slot l new plan a i done slot lt others = record {
-  segments = off_segments l new plan (a + i) done (omega (arith, slot.1, slot.2, low_above l.modules.plan));
+  segments = off_segments l new plan (a + i) done (omega (arith, slot.1, slot.2, own_slots_below l.modules.plan done.fits, low_above l.modules.plan));
   load_maps = λ j joins.
       let few : j.number < 64 = (All-contains (HasFreeNumber l.modules.process) plan.joining j done.free joins).0 in
-      is_outside (load_map_at j.number) LOAD_MAP_SIZE (a + i) (inr (omega (arith, few, slot.2)));
+      is_outside (load_map_at j.number) LOAD_MAP_SIZE (a + i) (inr (omega (arith, few, done.fits.some_processes, slot.2)));
   slots = λ f at there.
       let its = done.slots f at there in
       is_outside at DESCRIPTOR_SIZE (a + i) (off_slot at its (others f at there));
@@ -207,7 +209,7 @@ tables_stay_lem l new plan done gives has had = record {
         ]
 
     old_slot : (a : ℕ) → IsSlot (pool_of new.modules.plan new.modules.addrs) a → IsSlot (pool_of l.modules.plan l.modules.addrs) a
-    old_slot a slot = (slot.0, subst (λ p. slot.0 < p.descriptors) done.committed.plan' slot.1, slot.2)
+    old_slot a slot = subst (λ (p : MemPlan). IsSlot (pool_of p new.modules.addrs) a) done.committed.plan' slot
 
     old_pair : (f : Func) (a : ℕ) → get l.modules.addrs f ≡ Some a → IsSlot (pool_of l.modules.plan l.modules.addrs) a
         → HasPair new.memory a (place_of (placing_of new.modules.process new.modules.maps new.modules.addrs) f) (got_of (placing_of new.modules.process new.modules.maps new.modules.addrs) f.module)

@@ -2,6 +2,7 @@
 pub mod ConsistencyLaws
 pub mod DescriptorLaws
 pub mod Grounds
+pub mod ImageFrame
 pub mod LoadLaws
 pub mod Premises
 pub mod StepLaws

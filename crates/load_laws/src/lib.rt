@@ -5,11 +5,13 @@
 mod consistent;
 mod descriptors;
 mod determined;
+mod images;
 mod loads;
 mod steps;
 
-pub use consistent::{loads_keep_consistent, new_is_consistent};
+pub use consistent::{loads_keep_consistent, new_is_consistent, programs_are_bound};
 pub use descriptors::{addresses_stay, adoptions_are_free, descriptors_stay};
 pub use determined::{loads_are_determined, plans_are_determined};
-pub use loads::{images_stay, modules_stay, ranges_stay, tables_stay};
+pub use images::images_stand;
+pub use loads::{modules_stay, ranges_stay, tables_stay};
 pub use steps::steps_keep_consistent;

@@ -1,6 +1,6 @@
 //! What holds after a load. A call of one does nothing.
 
-ghost use Rattle.load_laws.specs.parts.Grounds.{ImagesStay, TablesStay};
+ghost use Rattle.load_laws.specs.parts.Grounds.{TablesStay};
 ghost use Rattle.load_laws.specs.parts.LoadLaws.{RangesStay, ModulesStay};
 
 /// What is held after a load are the placed segments of the live modules, which meet nowhere.
@@ -11,11 +11,6 @@ pub fn ranges_stay()
 /// The modules after a load: the new ones stand where they are placed, and the others stand as they did.
 pub fn modules_stay()
     ensures { ModulesStay }
-{}
-
-/// Each watched byte of a module is that of its image.
-pub fn images_stay()
-    ensures { ImagesStay }
 {}
 
 /// The stubs, the load maps and the slots of descriptors hold what they are to hold.

@@ -6,14 +6,11 @@ use Rattle.guest_mem.specs.Ranges.{with_kind}
 use Rattle.guest_mem.proofs.Ranged.{IsMemory-with_kind}
 use Rattle.load_model.specs.declared.layout.TheConstants.{RESOLVER, STUBS_END, LOAD_MAPS}
 use Rattle.load_model.specs.declared.plan.MemPlan.{MemPlan}
-use Rattle.load_model.specs.Layout.{fixed_kind, slots_end}
+use Rattle.load_model.specs.Layout.{fixed_kind}
 use Rattle.fd_base.specs.Ranges.{is_in}
-use Rattle.load_model.specs.Plan.{Fits, low_of, high_of}
+use Rattle.load_model.specs.Plan.{Fits, slots_end, high_of}
+use Rattle.load_model.proofs.PlanParts.{slots_below}
 use Rattle.load_memory.proofs.KindsByPlace.{kind_at-with_kind, is_marked-with_kind, HaveKind-with_kind}
-
--- the slots end where modules may begin, or before
-pub slots_below : (plan : MemPlan) → Fits plan → slots_end plan ≤ high_of plan
-slots_below plan fits = let h : low_of plan ≤ high_of plan = fits.modules in omega arith
 
 -- three ranges mapped over nothing: the stacks, the tables and the stubs
 module _ (plan : MemPlan) (fits : Fits plan) (m m1 m2 m3 : GuestMemory) (high : ℕ) (whole : IsMemory m) (size : length m.bytes ≡ plan.memory)

@@ -13,10 +13,12 @@ use Rattle.guest_mem.proofs.Keeping.{is_watched-same}
 use Rattle.load_map.specs.Whole.{PlacedApart}
 use Rattle.load_model.specs.declared.layout.TheConstants.{RESOLVER, STUBS_END, LOAD_MAPS}
 use Rattle.load_model.specs.declared.plan.MemPlan.{MemPlan}
-use Rattle.load_model.specs.declared.plan.TheConstants.{DESCRIPTORS}
-use Rattle.load_model.specs.Layout.{InMemory, IsLaidOut, LiesAt, WatchesAt, bytes_of_words, fixed_kind, kind_of_segment, slots_end, watched_ranges}
+use Rattle.symbol_scope.specs.declared.tables.TheConstants.{MAX_MODULES}
+use Rattle.load_model.specs.Image.{load_map_at}
+use Rattle.load_model.specs.Layout.{InMemory, IsLaidOut, LiesAt, WatchesAt, bytes_of_words, fixed_kind, kind_of_segment, watched_ranges}
 use Rattle.fd_base.specs.Ranges.{is_in}
-use Rattle.load_model.specs.Plan.{Fits, high_of, low_of}
+use Rattle.load_model.specs.Plan.{Fits, slots_end, high_of, low_of}
+use Rattle.load_model.proofs.PlanParts.{low_above}
 use Rattle.load_memory.specs.parts.PlacingSteps.{LiesWithin}
 use Rattle.load_memory.proofs.PutBytes.{SameMap-put}
 use Rattle.fd_base.proofs.Lists.{all_from, all_at}
@@ -120,9 +122,6 @@ stores_keep-segments plan mods old new m a s e keeps h lies other l =
 
 -- ---- room
 
-low_above : (plan : MemPlan) → slots_end plan ≤ low_of plan
-low_above plan = omega arith
-
 -- nothing but modules lies where they may
 fixed_kind-none : (plan : MemPlan) (a : ℕ) → low_of plan ≤ a → a < high_of plan → fixed_kind plan a ≡ None
 fixed_kind-none plan a low high =
@@ -134,19 +133,21 @@ fixed_kind-none plan a low high =
     ∙ ap (λ b. cond b (Some Fixed) (cond (is_in (high_of plan) (plan.memory - high_of plan) a) (Some Data) None)) tables
     ∙ ap (λ b. cond b (Some Data) None) stacks
 
-pub room-tables : (plan : MemPlan) (mods : InMemory) (memory : GuestMemory) → Fits plan → IsLaidOut plan mods memory → DESCRIPTORS ≤ length memory.bytes
+pub room-tables : (plan : MemPlan) (mods : InMemory) (memory : GuestMemory) → Fits plan → IsLaidOut plan mods memory → load_map_at MAX_MODULES ≤ length memory.bytes
 room-tables plan mods memory fits h =
     let above : slots_end plan ≤ low_of plan = low_above plan in
     let below : low_of plan ≤ high_of plan = fits.modules in
+    let some : 0 < plan.processes = fits.some_processes in
     let size : length memory.bytes ≡ plan.memory = h.size in
     omega arith
 
 pub room-inside : (plan : MemPlan) (mods : InMemory) (memory : GuestMemory) (load_map : List MapEntry) → Fits plan → IsLaidOut plan mods memory → All (LiesWithin (low_of plan) (high_of plan)) load_map
-    → All (LiesWithin DESCRIPTORS (length memory.bytes)) load_map
+    → All (LiesWithin (load_map_at MAX_MODULES) (length memory.bytes)) load_map
 room-inside plan mods memory load_map fits h within =
     let above : slots_end plan ≤ low_of plan = low_above plan in
+    let some : 0 < plan.processes = fits.some_processes in
     let size : length memory.bytes ≡ plan.memory = h.size in
-    All-weaker (LiesWithin (low_of plan) (high_of plan)) (LiesWithin DESCRIPTORS (length memory.bytes)) (λ e p. (omega arith, omega arith)) load_map within
+    All-weaker (LiesWithin (low_of plan) (high_of plan)) (LiesWithin (load_map_at MAX_MODULES) (length memory.bytes)) (λ e p. (omega arith, omega arith)) load_map within
 
 not_met : (d e : MapEntry) (a : ℕ) → PlacedApart d e → e.addr ≤ a → a < e.addr + e.memsz → is_in d.addr d.memsz a ≡ false
 not_met d e a (inl before) l l' = is_outside d.addr d.memsz a (inr (omega arith))

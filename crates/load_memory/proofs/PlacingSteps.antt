@@ -16,7 +16,7 @@ use Rattle.guest_mem.specs.Memory.{GuestMemory, IsMemory, byte_at}
 use Rattle.guest_mem.specs.parts.Kept.{SameMap}
 use Rattle.load_map.specs.parts.IsLoadMap.{EndsBelow}
 use Rattle.load_model.specs.declared.layout.TheConstants.{LOAD_MAP_SIZE}
-use Rattle.load_model.specs.declared.plan.TheConstants.{DESCRIPTORS}
+use Rattle.symbol_scope.specs.declared.tables.TheConstants.{MAX_MODULES}
 use Rattle.load_model.specs.Image.{load_map_at}
 use Rattle.fd_base.specs.Ranges.{is_in}
 use Rattle.load_memory.specs.parts.PlacingSteps.{AreMapped, AreFilled, IsPlacedBy, LiesWithin}
@@ -55,9 +55,9 @@ module _ (o : Object) (es : List MapEntry) (sound : IsSound o) (same : AllZip Is
   pub entries_few : length es ≤ 8
   entries_few = let few : length o.segments ≤ 8 = sound.few in let count : length es ≡ length o.segments = entries_count in omega arith
 
-  module _ (old : GuestMemory) (whole : IsMemory old) (inside : All (LiesWithin DESCRIPTORS (length old.bytes)) es) where
+  module _ (old : GuestMemory) (whole : IsMemory old) (inside : All (LiesWithin (load_map_at MAX_MODULES) (length old.bytes)) es) where
     pub entries_below : All (λ (e : MapEntry). e.addr + e.memsz ≤ length old.bytes) es
-    entries_below = All-weaker (LiesWithin DESCRIPTORS (length old.bytes)) (λ (e : MapEntry). e.addr + e.memsz ≤ length old.bytes) (λ e p. p.1) es inside
+    entries_below = All-weaker (LiesWithin (load_map_at MAX_MODULES) (length old.bytes)) (λ (e : MapEntry). e.addr + e.memsz ≤ length old.bytes) (λ e p. p.1) es inside
 
     pub entries_end : All EndsBelow es
     entries_end = ends_below es (length old.bytes) entries_below whole.size
@@ -70,7 +70,7 @@ module _ (o : Object) (es : List MapEntry) (sound : IsSound o) (same : AllZip Is
       size_still = told.size ∙ filled.size ∙ ap length bytes
 
       room_still : All (λ (e : MapEntry). e.addr + e.memsz ≤ length m3.bytes) es
-      room_still = let size : length m3.bytes ≡ length old.bytes = size_still in All-weaker (LiesWithin DESCRIPTORS (length old.bytes)) (λ (e : MapEntry). e.addr + e.memsz ≤ length m3.bytes) (λ e p. omega arith) es inside
+      room_still = let size : length m3.bytes ≡ length old.bytes = size_still in All-weaker (LiesWithin (load_map_at MAX_MODULES) (length old.bytes)) (λ (e : MapEntry). e.addr + e.memsz ≤ length m3.bytes) (λ e p. omega arith) es inside
 
       pub watchable_at : (v len : ℕ) → 0 < len → is_writable_in o.segments v len ≡ true → IsWatchable o.segments es m3 v len
       watchable_at v len some writable = watchable o.segments es (length es) v len old m3 same sound.apart some writable refl mapped_still room_still
@@ -91,20 +91,20 @@ module _ (o : Object) (es : List MapEntry) (sound : IsSound o) (same : AllZip Is
 
 -- ---- bytes
 
-module _ (es : List MapEntry) (parts : List (List ℕ)) (number : ℕ) (old m1 m2 m3 now : GuestMemory) (below : number < 64) (inside : All (LiesWithin DESCRIPTORS (length old.bytes)) es)
+module _ (es : List MapEntry) (parts : List (List ℕ)) (number : ℕ) (old m1 m2 m3 now : GuestMemory) (below : number < 64) (inside : All (LiesWithin (load_map_at MAX_MODULES) (length old.bytes)) es)
     (mapped : m1.bytes ≡ old.bytes) (filled : AreFilled es parts (length es) m1 m2)
     (told : (a : ℕ) → is_in (load_map_at number) LOAD_MAP_SIZE a ≡ false → byte_at m3 a ≡ byte_at m2 a) (watched : now.bytes ≡ m3.bytes) where
   byte_now : (a : ℕ) → is_in (load_map_at number) LOAD_MAP_SIZE a ≡ false → byte_at now a ≡ byte_at m2 a
   byte_now a out = ap (λ (xs : List ℕ). get_or xs a 0) watched ∙ told a out
 
   -- the load maps lie below the segments
-  above_tables : (e : MapEntry) (i : ℕ) → DESCRIPTORS ≤ e.addr → is_in (load_map_at number) LOAD_MAP_SIZE (e.addr + i) ≡ false
+  above_tables : (e : MapEntry) (i : ℕ) → load_map_at MAX_MODULES ≤ e.addr → is_in (load_map_at number) LOAD_MAP_SIZE (e.addr + i) ≡ false
   above_tables e i above = is_outside (load_map_at number) LOAD_MAP_SIZE (e.addr + i) (inr (omega arith))
 
   pub parts_now : length parts ≡ length es → AllZip (λ (e : MapEntry) (part : List ℕ). (i : ℕ) → i < e.memsz → byte_at now (e.addr + i) ≡ slice_index part i) es parts
   parts_now count =
       zip_from (λ (e : MapEntry) (part : List ℕ). (i : ℕ) → i < e.memsz → byte_at now (e.addr + i) ≡ slice_index part i) es parts count
-      (λ k e part p q i l. byte_now (e.addr + i) (above_tables e i (all_at (LiesWithin DESCRIPTORS (length old.bytes)) es k e inside p).0) ∙ filled.bytes k i e part (slice_get_within es k e p) p q l)
+      (λ k e part p q i l. byte_now (e.addr + i) (above_tables e i (all_at (LiesWithin (load_map_at MAX_MODULES) (length old.bytes)) es k e inside p).0) ∙ filled.bytes k i e part (slice_get_within es k e p) p q l)
 
   pub rest_now : (a : ℕ) → All (λ (e : MapEntry). is_in e.addr e.memsz a ≡ false) es → is_in (load_map_at number) LOAD_MAP_SIZE a ≡ false → byte_at now a ≡ byte_at old a
   rest_now a outside out =

@@ -12,10 +12,7 @@ ghost use Rattle.load_memory.specs.parts.Stubs.{HasStubs};
 use crate::bytes::fill_words;
 use fd_base::Memory;
 use guest_mem::{Guest, MemKind};
-use load_model::{
-    DESCRIPTOR_SIZE, DESCRIPTORS, END_WORDS, LOAD_MAPS, MemPlan, RESOLVER, RESOLVER_WORDS,
-    STUBS_END, THREAD_END,
-};
+use load_model::{END_WORDS, LOAD_MAPS, MemPlan, RESOLVER, RESOLVER_WORDS, STUBS_END, THREAD_END};
 use std::alloc::Global;
 
 /// Maps the stubs, the load maps with the descriptors, and the stacks.
@@ -30,7 +27,7 @@ fn map_fixed(guest: &mut Guest, plan: &MemPlan)
 {
     guest.whole();
     let high = plan.high();
-    let slots_end = DESCRIPTORS + DESCRIPTOR_SIZE * plan.descriptors;
+    let slots_end = plan.slots_end();
     guest.map(high, plan.memory - high, MemKind::Data);
     guest.map(LOAD_MAPS, slots_end - LOAD_MAPS, MemKind::Fixed);
     guest.map(RESOLVER, STUBS_END - RESOLVER, MemKind::Code);

@@ -10,7 +10,8 @@ ghost use Rattle.guest_mem.specs.parts.Kept.{Keeps, SameMap};
 ghost use Rattle.guest_mem.specs.Memory.{HaveKind, GuestMemory, byte_at, is_watched};
 ghost use Rattle.load_map.specs.Whole.{PlacedApart};
 ghost use Rattle.load_model.specs.declared.plan.MemPlan.{MemPlan};
-ghost use Rattle.load_model.specs.declared.plan.TheConstants.{DESCRIPTORS};
+ghost use Rattle.symbol_scope.specs.declared.tables.TheConstants.{MAX_MODULES};
+ghost use Rattle.load_model.specs.Image.{load_map_at};
 ghost use Rattle.load_model.specs.Layout.{InMemory, IsLaidOut, LiesAt, WatchesAt, bytes_of_words, fixed_kind, kind_of_segment};
 ghost use Rattle.fd_base.specs.Ranges.{is_in};
 ghost use Rattle.load_model.specs.Plan.{Fits, high_of, low_of};
@@ -43,9 +44,9 @@ pub fn stores_keep()
 
 /// Ranges where modules may lie, apart from the segments that are there, are free and above the load maps.
 pub fn room_is_free()
-    ensures tables { (plan : MemPlan) (mods : InMemory) (memory : GuestMemory) → Fits plan → IsLaidOut plan mods memory → DESCRIPTORS ≤ length memory.bytes }
+    ensures tables { (plan : MemPlan) (mods : InMemory) (memory : GuestMemory) → Fits plan → IsLaidOut plan mods memory → load_map_at MAX_MODULES ≤ length memory.bytes }
     ensures inside { (plan : MemPlan) (mods : InMemory) (memory : GuestMemory) (load_map : List MapEntry) → Fits plan → IsLaidOut plan mods memory →
-        All (LiesWithin (low_of plan) (high_of plan)) load_map → All (LiesWithin DESCRIPTORS (length memory.bytes)) load_map }
+        All (LiesWithin (low_of plan) (high_of plan)) load_map → All (LiesWithin (load_map_at MAX_MODULES) (length memory.bytes)) load_map }
     ensures free { (plan : MemPlan) (mods : InMemory) (memory : GuestMemory) (load_map : List MapEntry) → Fits plan → IsLaidOut plan mods memory →
         All (LiesWithin (low_of plan) (high_of plan)) load_map →
         ((m : ℕ) (s : Segment) (d : MapEntry) → LiesAt mods m s d → All (PlacedApart d) load_map) →

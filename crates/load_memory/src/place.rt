@@ -19,7 +19,7 @@ use elf_model::Object;
 use fd_base::Bytes;
 use guest_mem::Guest;
 use load_map::MapEntry;
-use load_model::{DESCRIPTORS, LOAD_MAP_SIZE, MAX_MODULES};
+use load_model::{LOAD_MAP_SIZE, MAX_MODULES};
 
 /// Places a new module: maps its segments, writes their finished bytes and its load map, and watches what no store may
 /// change. Its segments lie in memory that is free, apart from each other and above the load maps.
@@ -33,8 +33,8 @@ pub fn put_module(
     requires number { number < MAX_MODULES }
     requires sound { IsSound object.now }
     requires segments { AllZip IsPlacedBy object.now.segments load_map.now }
-    requires tables { DESCRIPTORS ≤ length guest.old.bytes }
-    requires inside { All (LiesWithin DESCRIPTORS (length guest.old.bytes)) load_map.now }
+    requires tables { load_map_at MAX_MODULES ≤ length guest.old.bytes }
+    requires inside { All (LiesWithin (load_map_at MAX_MODULES) (length guest.old.bytes)) load_map.now }
     requires free { All (λ e. HaveKind guest.old e.addr e.memsz None) load_map.now }
     requires apart { AllPairs PlacedApart load_map.now }
     requires parts { AllZip (λ e part. length part ≡ e.memsz) load_map.now parts.now }

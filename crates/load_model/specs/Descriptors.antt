@@ -11,7 +11,7 @@ use Rattle.elf_model.specs.declared.object.Rel.{Rel}
 use Rattle.symbol_scope.specs.Closure.{firsts}
 use Rattle.load_model.specs.declared.error.LoadRefusal.{LoadRefusal}
 use Rattle.load_model.specs.declared.meaning.SiteValue.{SiteValue}
-use Rattle.load_model.specs.declared.meaning.SiteValue.TheVariants.{Place as Placed, Formula, Pair, Descriptor}
+use Rattle.load_model.specs.declared.meaning.SiteValue.TheVariants.{Place as Placed, Formula, Pair, Stub, Descriptor}
 use Rattle.load_model.specs.Definition.{Linkage, is_own, symbol_at}
 use Rattle.load_model.specs.Sites.{Member, site_value}
 
@@ -28,6 +28,7 @@ abbrev pub pair_of : Result SiteValue LoadRefusal → Option Func
 pair_of (Ok (Placed f)) = None
 pair_of (Ok (Formula v)) = None
 pair_of (Ok (Pair f)) = f
+pair_of (Ok (Stub z)) = None
 pair_of (Ok (Descriptor f)) = None
 pair_of (Err r) = None
 
@@ -36,6 +37,7 @@ abbrev pub descriptor_of : Result SiteValue LoadRefusal → Option Func
 descriptor_of (Ok (Placed f)) = None
 descriptor_of (Ok (Formula v)) = None
 descriptor_of (Ok (Pair f)) = None
+descriptor_of (Ok (Stub z)) = None
 descriptor_of (Ok (Descriptor f)) = f
 descriptor_of (Err r) = None
 

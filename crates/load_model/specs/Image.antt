@@ -14,19 +14,21 @@ use Rattle.arm_relocs.specs.Value.{apply_value}
 use Rattle.load_model.specs.declared.error.LoadRefusal.{LoadRefusal}
 use Rattle.load_model.specs.declared.layout.TheConstants.{RESOLVER, LOAD_MAPS, LOAD_MAP_SIZE}
 use Rattle.load_model.specs.declared.meaning.SiteValue.{SiteValue}
-use Rattle.load_model.specs.declared.meaning.SiteValue.TheVariants.{Place, Formula, Pair, Descriptor}
+use Rattle.load_model.specs.declared.meaning.SiteValue.TheVariants.{Place, Formula, Pair, Stub, Descriptor}
 use Rattle.load_model.specs.declared.meaning.Value.{Value}
 use Rattle.load_model.specs.declared.meaning.Value.TheVariants.{Address, Number}
 use Rattle.load_model.specs.declared.words.LinkWord.{LinkWord}
 use Rattle.load_model.specs.Definition.{Linkage}
-use Rattle.load_model.specs.Sites.{addend_of, site_value}
-use Rattle.elf_model.specs.Filled.{site_relocations}
+use Rattle.load_model.specs.Sites.{addend_of}
+use Rattle.load_model.specs.Unbound.{standing_value}
+use Rattle.elf_model.specs.Filled.{sites_of}
 
--- where modules are placed: the load map of each, the link address of its GOT, and the address of each function's
--- descriptor
+-- where modules are placed: the load map of each, the link address of its GOT, and the addresses at which its load map and
+-- each function's descriptor stand
 pub record Placing : Type 0 where
   pub maps : ℕ → List MapEntry
   pub gots : ℕ → Option ℕ
+  pub load_maps : ℕ → ℕ
   pub descriptors : Func → Option ℕ
 
 -- ---- placed addresses
@@ -41,18 +43,18 @@ abbrev pub number_of_value : Placing → Value → ℕ
 number_of_value p (Address f) = place_of p f
 number_of_value p (Number n) = n
 
--- the address of the load map of a module
+-- the address of the load map of a module of the first process
 abbrev pub load_map_at : ℕ → ℕ
 load_map_at number = LOAD_MAPS + LOAD_MAP_SIZE * number
 
 -- ---- words
 
 -- The three words of the header of the GOT: they are the loader's to choose, and the ones here are this loader's own.
-abbrev pub got_words : ℕ → ℕ → List LinkWord
-got_words number got =
+abbrev pub got_words : Placing → ℕ → ℕ → List LinkWord
+got_words p number got =
     record { addr = got; value = RESOLVER }
     ∷ record { addr = got + 4; value = number }
-    ∷ record { addr = got + 8; value = load_map_at number }
+    ∷ record { addr = got + 8; value = p.load_maps number }
     ∷ []
 
 abbrev pub word_at : ℕ → ℕ → List LinkWord
@@ -76,15 +78,16 @@ value_words p m o r (Place f) = word_at r.site (place_of p f)
 value_words p m o r (Formula v) =
     word_at r.site (unwrap_or (apply_value r.kind (number_of_value p v) (addend_of o r) (placed (p.maps m) r.site) (got_of p m)) 0)
 value_words p m o r (Pair f) = pair_words p r.site f
+value_words p m o r (Stub z) = pair_at r.site (placed (p.maps m) z) (got_of p m)
 value_words p m o r (Descriptor f) = descriptor_word p r.site f
 
 abbrev pub words_for : Placing → ℕ → Object → Rel → Result SiteValue LoadRefusal → List LinkWord
 words_for p m o r (Ok value) = value_words p m o r value
 words_for p m o r (Err refusal) = []
 
--- what loading writes over the bytes of the file
-abbrev pub words_of : Linkage → Placing → ℕ → Object → List LinkWord
-words_of l p m o = got_words m o.got ++ flat_map (λ r. words_for p m o r (site_value l m o r)) (site_relocations o)
+-- what stands over the bytes of the file while these slots are unbound
+abbrev pub words_of : Linkage → Placing → ℕ → Object → List Bool → List LinkWord
+words_of l p m o unbound = got_words p m o.got ++ flat_map (λ s. words_for p m o s.rel (standing_value l m o unbound s)) (sites_of o)
 
 -- ---- bytes
 
@@ -98,15 +101,16 @@ byte_over [] below v = below v
 byte_over (w ∷ ws) below v =
     if is_in_word w v then slice_index (to_le_bytes w32 w.value) (v - w.addr) else byte_over ws below v
 
--- The byte at a link address of module m: what loading writes there, or the file's byte or zero.
-abbrev pub image_of : Linkage → Placing → ℕ → Object → ℕ → ℕ
-image_of l p m o v = byte_over (words_of l p m o) (file_byte o.segments) v
+-- The byte at a link address of module m, these slots of which are unbound: what loading or binding writes there, or the
+-- file's byte or zero.
+abbrev pub image_of : Linkage → Placing → ℕ → Object → List Bool → ℕ → ℕ
+image_of l p m o unbound v = byte_over (words_of l p m o unbound) (file_byte o.segments) v
 
 -- the bytes of one placed segment
-pub record IsPart (l : Linkage) (p : Placing) (m : ℕ) (o : Object) (e : MapEntry) (part : List ℕ) : Type 0 where
+pub record IsPart (l : Linkage) (p : Placing) (m : ℕ) (o : Object) (unbound : List Bool) (e : MapEntry) (part : List ℕ) : Type 0 where
   pub len : length part ≡ e.memsz
-  pub bytes : (i : ℕ) → i < e.memsz → slice_index part i ≡ image_of l p m o (e.vaddr + i)
+  pub bytes : (i : ℕ) → i < e.memsz → slice_index part i ≡ image_of l p m o unbound (e.vaddr + i)
 
 -- the bytes of each placed segment
-abbrev pub IsImage : Linkage → Placing → ℕ → Object → List MapEntry → List (List ℕ) → Type 0
-IsImage l p m o load_map parts = AllZip (IsPart l p m o) load_map parts
+abbrev pub IsImage : Linkage → Placing → ℕ → Object → List Bool → List MapEntry → List (List ℕ) → Type 0
+IsImage l p m o unbound load_map parts = AllZip (IsPart l p m o unbound) load_map parts

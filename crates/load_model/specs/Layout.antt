@@ -1,6 +1,6 @@
 -- Where things lie in the memory of a process, and what no store changes. The parts of the memory are this loader's own;
 -- that each segment of a module is placed by itself is the FDPIC ABI's ("Load maps").
-use Rattle.std.specs.Prelude.{◌≡◌, ◌≢◌, ℕ, ◌+◌, ◌-◌, ◌*◌, ◌<◌, true, false, ◌==◌, List, [], ◌∷◌, length, map, filter, slice_index, slice_get, Option, Some, None, Contains, if◌then◌else◌}
+use Rattle.std.specs.Prelude.{◌≡◌, ◌≢◌, ℕ, ◌+◌, ◌-◌, ◌<◌, true, false, ◌==◌, List, [], ◌∷◌, length, map, filter, slice_index, slice_get, Option, Some, None, Contains, if◌then◌else◌}
 use Rattle.std.specs.List.{flat_map}
 use Rattle.std.specs.Int.{w32, to_le_bytes}
 use Rattle.fd_base.specs.Ranges.{is_in}
@@ -15,10 +15,9 @@ use Rattle.guest_mem.specs.Memory.{GuestMemory, IsMemory, HaveKind, byte_at, kin
 use Rattle.load_map.specs.Image as map_image
 use Rattle.load_model.specs.declared.layout.TheConstants.{RESOLVER, STUBS_END, LOAD_MAPS, LOAD_MAP_SIZE}
 use Rattle.load_model.specs.declared.plan.MemPlan.{MemPlan}
-use Rattle.load_model.specs.declared.plan.TheConstants.{DESCRIPTORS, DESCRIPTOR_SIZE}
 use Rattle.load_model.specs.Image.{load_map_at}
 use Rattle.load_map.specs.Translation.{placed}
-use Rattle.load_model.specs.Plan.{high_of}
+use Rattle.load_model.specs.Plan.{high_of, slots_end}
 use Rattle.elf_model.specs.Filled.{site_relocations}
 
 -- ---- kinds
@@ -26,10 +25,6 @@ use Rattle.elf_model.specs.Filled.{site_relocations}
 -- a segment is mapped as Code where it is executable, else as Data where it is writable, else as Fixed
 abbrev pub kind_of_segment : Segment → MemKind
 kind_of_segment s = if has_flag s.flags PF_X then Code else if has_flag s.flags PF_W then Data else Fixed
-
--- the address behind the slots of descriptors
-abbrev pub slots_end : MemPlan → ℕ
-slots_end plan = DESCRIPTORS + DESCRIPTOR_SIZE * plan.descriptors
 
 -- what lies at an address besides modules: the stubs, then load maps and descriptors, and at the top the stacks
 abbrev pub fixed_kind : MemPlan → ℕ → Option MemKind

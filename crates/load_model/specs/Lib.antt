@@ -9,5 +9,6 @@ pub mod Numbers
 pub mod Plan
 pub mod Process
 pub mod Sites
+pub mod Unbound
 pub mod Validity
 pub mod Walk

@@ -1,15 +1,20 @@
 -- What holds of every process.
 use Rattle.std.specs.Prelude.{◌≡◌, ◌≢◌, ℕ, true, length, Some, None, All, AllPairs, Contains, IsSomeAnd}
+use Rattle.plt_code.specs.Entries.{lazy_place}
 use Rattle.symbol_scope.specs.declared.tables.TheConstants.{MAX_MODULES}
 use Rattle.load_model.specs.declared.module.Group.{Group}
 use Rattle.load_model.specs.declared.module.Live.{Live}
 use Rattle.load_model.specs.declared.module.SymbolicProcess.{SymbolicProcess}
 use Rattle.load_model.specs.Process.{live_at, is_live, number_of, group_at, group_scope}
+use Rattle.load_model.specs.Unbound.{is_set}
 
--- a live module: it is in a live group, and what it needs is live and in that group's scope
+-- a live module: it is in a live group, what it needs is live and in that group's scope, each of its slots has a flag, and
+-- each unbound one its call of the resolver
 pub record IsMember (p : SymbolicProcess) (m : ℕ) (live : Live) : Type 0 where
   pub grouped : group_at p live.group ≢ None
   pub needs : All (λ name. IsSomeAnd (number_of p name) (λ n. Contains (group_scope p m) n)) live.object.needed
+  pub flags : length live.unbound ≡ length live.object.jmprels
+  pub calls : (k : ℕ) → is_set live.unbound k ≡ true → lazy_place live.object k ≢ None
 
 -- a live group: its number is that of a member, and the modules of its scope are live
 pub record IsGroup (p : SymbolicProcess) (g : ℕ) (group : Group) : Type 0 where

@@ -2,7 +2,7 @@
 
 ghost use Rattle.load_model.specs.Numbers.{HasNumbers};
 
-/// The addresses, sizes and words of the memory plan, and the most modules and threads, are what they are said to be.
+/// The addresses, sizes and words of the memory plan, and the most modules, are what they are said to be.
 pub fn numbers()
     ensures { HasNumbers }
 {}

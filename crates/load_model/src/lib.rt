@@ -10,17 +10,19 @@ mod meaning;
 mod module;
 mod plan;
 mod process;
+mod unbound;
 mod words;
 
 pub use error::{LoadErr, LoadRefusal};
 pub use laws::numbers;
 pub use layout::{
-    END_WORDS, LOAD_MAP_SIZE, LOAD_MAPS, PROCESS_END, RESOLVER, RESOLVER_WORDS, STUBS_END,
-    THREAD_END,
+    END_WORDS, LOAD_MAP_SIZE, LOAD_MAPS, LOAD_MAPS_SIZE, PROCESS_END, RESOLVER, RESOLVER_WORDS,
+    STUBS_END, THREAD_END, load_map_at,
 };
 pub use maps::{MapEntries, Maps};
 pub use meaning::{Definition, SiteValue, Value};
-pub use module::{Group, Groups, Joining, Live, Modules, SymbolicProcess};
-pub use plan::{DESCRIPTOR_SIZE, DESCRIPTORS, MemPlan, PlaceLine, Places, THREADS, listed_for};
+pub use module::{Flags, Group, Groups, Joining, Live, Modules, SlotOf, SymbolicProcess};
+pub use plan::{DESCRIPTOR_SIZE, MemPlan, PlaceLine, Places, listed_for};
 pub use symbol_scope::MAX_MODULES;
+pub use unbound::{is_set, unbound_at_first};
 pub use words::{LinkWord, SlotPair};

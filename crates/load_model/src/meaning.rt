@@ -32,6 +32,9 @@ pub enum SiteValue {
     Formula(Value),
     /// Two words: the placed address of a function and that of the GOT of its module, or two zeros.
     Pair(Option<Func>),
+    /// Two words: the placed address of a link address of the module itself, where the slot's call of the resolver
+    /// stands, and that of the module's GOT.
+    Stub(u32),
     /// One word: the placed address of a function's descriptor, or zero.
     Descriptor(Option<Func>),
 }

@@ -14,6 +14,18 @@ pub struct Live {
     pub group: u32,
     /// How often it was opened and not closed.
     pub opens: u32,
+    /// Which of its slots are unbound, by their numbers: those lead to calls of the resolver, which bind them.
+    pub unbound: Flags,
+}
+
+/// A flag for each slot of a module, from slot 0 on.
+pub type Flags = Seq<bool>;
+
+/// A slot of a module, both by number.
+#[derive(Clone, Copy, PartialEq, Eq)]
+pub struct SlotOf {
+    pub module: u32,
+    pub slot: u32,
 }
 
 /// Modules that were loaded together.

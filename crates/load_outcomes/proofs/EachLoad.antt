@@ -1,20 +1,21 @@
 -- The load of each program over told files is done, or refused.
-use Rattle.std.proofs.Common.{ℕ, ◌^◌, ◌≡◌, ◌<◌, inl, inr, Bool, false, List, Some, refl, subst, arith, length}
+use Rattle.std.proofs.Common.{ℕ, ◌^◌, ◌≡◌, ◌<◌, inl, inr, List, Some, refl, subst, arith, length}
 use Rattle.fd_base.specs.Fetched.{Files}
 use Rattle.symbol_scope.specs.declared.tables.TheConstants.{MAX_MODULES}
+use Rattle.load_model.specs.Joined.{Asked}
 use Rattle.load_model.specs.declared.plan.MemPlan.{MemPlan}
 use Rattle.load_model.specs.Plan.{Fits}
 use Rattle.load_laws.proofs.NewLoaders.{new_is_consistent_lem, start_laid_out}
 use Rattle.load_state.specs.Consistent.{IsConsistent}
 use Rattle.load_state.specs.Loaded.{Loaded, LoadedModules}
-use Rattle.load_state.specs.ProgramLoad.{IsNew, start_of}
+use Rattle.load_state.specs.ProgramLoad.{IsNew, eager, start_of}
 use Rattle.load_state.specs.Refused.{IsRefused}
 use Rattle.load_outcomes.specs.parts.Outcomes.{LoadComesTo, LoadsComeTo, HasPlanOrRefusal}
 use Rattle.load_outcomes.proofs.EachCommit.{each_commit}
 use Rattle.load_outcomes.proofs.EachPlan.{each_plan}
 use Rattle.load_outcomes.proofs.NewMemory.{new_memory}
 
-each_planned : (l : Loaded) (told : Files) (root : List ℕ) (asked : Bool) → IsConsistent l → HasPlanOrRefusal l.modules told root asked
+each_planned : (l : Loaded) (told : Files) (root : List ℕ) (asked : Asked) → IsConsistent l → HasPlanOrRefusal l.modules told root asked
 each_planned l told root asked consistent =
     let size : length l.modules.process.modules ≡ MAX_MODULES = consistent.valid.modules' in
     each_plan l.modules told root asked (omega arith)
@@ -40,9 +41,9 @@ each_program plan told name fits small =
     let start = each_start plan fits small in
     let l : Loaded = start.0 in
     let consistent : IsConsistent l = new_is_consistent_lem plan l start.1 in
-    elim (each_planned l told name false consistent) [
+    elim (each_planned l told name eager consistent) [
       | inl planned ↦
-          let done = each_commit l told name false planned.0 consistent planned.1 in
+          let done = each_commit l told name eager planned.0 consistent planned.1 in
           inl (done.0, record { start = l; group = planned.0; fresh = start.1; planned = planned.1; committed = done.1 })
       | inr refused ↦ inr (refused.0, subst (λ (k : LoadedModules). IsRefused k (Some told) name refused.0) start.1.starts refused.1)
     ]

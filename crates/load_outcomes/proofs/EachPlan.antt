@@ -1,5 +1,5 @@
 -- Over told files each load has a plan or a refusal.
-use Rattle.std.proofs.Common.{◌≡◌, ℕ, ◌<◌, ◌≤◌, ◌⊎◌, inl, inr, Bool, List, length, Option, Some, None, refl}
+use Rattle.std.proofs.Common.{◌≡◌, ℕ, ◌<◌, ◌≤◌, ◌⊎◌, inl, inr, List, length, Option, Some, None, refl}
 use Rattle.std.proofs.lemmas.Bool.{cases_lt}
 use Rattle.load_map.specs.declared.entry.MapEntry.{MapEntry}
 use Rattle.fd_base.specs.Fetched.{Files}
@@ -12,7 +12,7 @@ use Rattle.load_model.specs.declared.error.LoadRefusal.{LoadRefusal}
 use Rattle.load_model.specs.declared.error.LoadRefusal.TheVariants.{DescriptorsFull, NoRoom}
 use Rattle.load_model.specs.declared.module.Joining.{Joining}
 use Rattle.load_model.specs.Image.{Placing}
-use Rattle.load_model.specs.Joined.{global_after}
+use Rattle.load_model.specs.Joined.{Asked, flags_of, global_after}
 use Rattle.load_model.specs.Linkage.{closure_of, members_of, scope_with}
 use Rattle.load_model.specs.Plan.{high_of, low_of}
 use Rattle.load_model.specs.Sites.{first_refusal}
@@ -21,7 +21,7 @@ use Rattle.load_plan.specs.parts.LinkedLoad.{IsUnlinked}
 use Rattle.load_plan.specs.parts.LinkedLoad.IsUnlinked.{Filling, Walking}
 use Rattle.load_plan.proofs.LinkRefusals.{told_refused}
 use Rattle.load_state.specs.declared.plan.GroupPlan.{GroupPlan}
-use Rattle.load_state.specs.Accepted.{CanBeFilled, IsScoped, adopted_by, all_items, given_by, linkage_for, maps_after, placing_by, wanted_by}
+use Rattle.load_state.specs.Accepted.{CanBeFilled, IsScoped, adopted_by, all_items, given_by, linkage_for, maps_after, placing_by, tables_of, targets_for, wanted_by}
 use Rattle.load_state.specs.Loaded.{LoadedModules, pool_of}
 use Rattle.load_state.specs.Refused.{IsRefused}
 use Rattle.load_outcomes.specs.parts.Outcomes.{HasPlanOrRefusal}
@@ -29,7 +29,7 @@ use Rattle.load_outcomes.proofs.EachImage.{are_finished, images_of}
 use Rattle.load_outcomes.proofs.EachPlace.{placed_or_fails}
 use Rattle.load_outcomes.proofs.EachWalk.{each_walk}
 
-module _ (l : LoadedModules) (told : Files) (root : List ℕ) (asked : Bool) where
+module _ (l : LoadedModules) (told : Files) (root : List ℕ) (asked : Asked) where
   unlinked : (r : LoadRefusal) → IsUnlinked l.process (Some told) root r → IsRefused l (Some told) root r
   unlinked r why = told_refused l (Some told) root 0 0 (Refused r) why
 
@@ -48,14 +48,18 @@ module _ (l : LoadedModules) (told : Files) (root : List ℕ) (asked : Bool) whe
     planned addrs = record {
       root = number;
       joining = joining;
+      lazy = asked.lazy;
+      unbound = flags_of asked.lazy joining;
+      targets = targets_for l joining scope;
+      tables = tables_of joining;
       scope = scope;
-      global = global_after l.process asked scope;
+      global = global_after l.process asked.global scope;
       items = all_items l.plan.places joining;
       addrs = addrs;
       maps = maps addrs;
       adopted = adopted addrs;
       given = given_by l joining scope;
-      parts = images_of (linkage_for l joining scope) (placing addrs) (maps addrs) joining;
+      parts = images_of (linkage_for l joining scope) (placing addrs) asked.lazy (maps addrs) joining;
     }
 
     by_place : CanBeFilled l joining scope → length (wanted_by l joining scope) ≤ length (free_slots (pool_of l.plan l.addrs))
@@ -69,6 +73,10 @@ module _ (l : LoadedModules) (told : Files) (root : List ℕ) (asked : Bool) whe
             scoped = scoped;
             root' = root';
             global' = refl;
+            lazy' = refl;
+            unbound' = refl;
+            targets' = refl;
+            tables' = refl;
             filled = filled;
             enough = enough;
             items' = refl;
@@ -76,7 +84,7 @@ module _ (l : LoadedModules) (told : Files) (root : List ℕ) (asked : Bool) whe
             maps' = refl;
             adopted' = refl;
             given' = refl;
-            parts' = are_finished (linkage_for l joining scope) (placing placed.0) (maps placed.0) joining;
+            parts' = are_finished (linkage_for l joining scope) (placing placed.0) asked.lazy (maps placed.0) joining;
           },
         )
     by_place filled enough (inr fails) =

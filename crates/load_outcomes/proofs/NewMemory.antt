@@ -12,12 +12,13 @@ use Rattle.guest_mem.specs.parts.Kept.{SameMap}
 use Rattle.guest_mem.proofs.Ranged.{IsMemory-with_kind}
 use Rattle.load_memory.specs.parts.Modules.{nothing}
 use Rattle.load_memory.specs.parts.Stubs.{HasStubs}
-use Rattle.load_memory.proofs.EmptyMemory.{kind3, mark3, slots_below}
+use Rattle.load_memory.proofs.EmptyMemory.{kind3, mark3}
 use Rattle.load_memory.proofs.PutBytes.{HasBytes-other, HasBytes-put, SameMap-put, byte_at-other}
 use Rattle.load_model.specs.declared.layout.TheConstants.{END_WORDS, LOAD_MAPS, RESOLVER, RESOLVER_WORDS, STUBS_END, THREAD_END}
 use Rattle.load_model.specs.declared.plan.MemPlan.{MemPlan}
-use Rattle.load_model.specs.Layout.{HasBytes, IsLaidOut, bytes_of_words, fixed_kind, slots_end}
-use Rattle.load_model.specs.Plan.{Fits, high_of}
+use Rattle.load_model.specs.Layout.{HasBytes, IsLaidOut, bytes_of_words, fixed_kind}
+use Rattle.load_model.specs.Plan.{Fits, slots_end, high_of}
+use Rattle.load_model.proofs.PlanParts.{slots_below}
 use Rattle.load_outcomes.proofs.PutModule.{same_memory}
 
 same_each : {X : Type 0} (n a : ℕ) (x : X) → get_or (replicate n x) a x ≡ x

@@ -12,7 +12,7 @@ use Rattle.guest_mem.specs.Memory.{GuestMemory, IsMemory, byte_at}
 use Rattle.guest_mem.specs.parts.Kept.{SameMap}
 use Rattle.load_model.specs.declared.layout.TheConstants.{LOAD_MAP_SIZE}
 use Rattle.load_model.specs.declared.module.Joining.{Joining}
-use Rattle.load_model.specs.declared.plan.TheConstants.{DESCRIPTORS}
+use Rattle.symbol_scope.specs.declared.tables.TheConstants.{MAX_MODULES}
 use Rattle.load_model.specs.Image.{load_map_at}
 use Rattle.load_model.specs.Layout.{HasLoadMap, watched_ranges}
 use Rattle.load_memory.specs.parts.PlacingSteps.{AreFilled, AreMapped}
@@ -40,7 +40,7 @@ record IsMapPut (number : ℕ) (es : List MapEntry) (old now : GuestMemory) : Ty
   rest : (a : ℕ) → is_in (load_map_at number) LOAD_MAP_SIZE a ≡ false → byte_at now a ≡ byte_at old a
   map : SameMap old now
 
-map_is_put : (number : ℕ) (es : List MapEntry) (m n w : GuestMemory) → number < 64 → length es ≤ 8 → DESCRIPTORS ≤ length m.bytes
+map_is_put : (number : ℕ) (es : List MapEntry) (m n w : GuestMemory) → number < 64 → length es ≤ 8 → load_map_at MAX_MODULES ≤ length m.bytes
     → n ≡ with_bytes m (load_map_at number) (bytes_of_map es)
     → w ≡ with_bytes n (load_map_at number + length (bytes_of_map es)) (replicate (LOAD_MAP_SIZE - length (bytes_of_map es)) 0)
     → IsMapPut number es m w
@@ -60,7 +60,7 @@ map_is_put number es m n w below few room put clear =
       map = put_clear-map m n w at (at + length bytes) bytes (LOAD_MAP_SIZE - length bytes) put clear refl;
     }
 
-load_map_put : (number : ℕ) (es : List MapEntry) (m : GuestMemory) → number < 64 → length es ≤ 8 → DESCRIPTORS ≤ length m.bytes → (now : GuestMemory) × IsMapPut number es m now
+load_map_put : (number : ℕ) (es : List MapEntry) (m : GuestMemory) → number < 64 → length es ≤ 8 → load_map_at MAX_MODULES ≤ length m.bytes → (now : GuestMemory) × IsMapPut number es m now
 load_map_put number es m below few room =
     let n : GuestMemory = with_bytes m (load_map_at number) (bytes_of_map es) in
     let w : GuestMemory = with_bytes n (load_map_at number + length (bytes_of_map es)) (replicate (LOAD_MAP_SIZE - length (bytes_of_map es)) 0) in
@@ -108,7 +108,7 @@ module _ (j : Joining) (es : List MapEntry) (parts : List (List ℕ)) (old : Gue
       let second = each_filled es next.apart m1 below1 parts next.sizes (length es) (omega arith) in
       let m2 : GuestMemory = second.0 in
       let size : length m2.bytes ≡ length old.bytes = second.1.map.size ∙ ap length first.1.bytes in
-      let tables : DESCRIPTORS ≤ length old.bytes = next.tables in
+      let tables : load_map_at MAX_MODULES ≤ length old.bytes = next.tables in
       let third = load_map_put j.number es m2 next.number' (entries_few o es next.sound next.segments) (omega arith) in
       let m3 : GuestMemory = third.0 in
       let whole2 : IsMemory m2 = same_memory m1 m2 second.1.map first.1.whole in

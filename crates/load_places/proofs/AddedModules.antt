@@ -13,10 +13,10 @@ use Rattle.load_memory.specs.parts.Modules.{with_module}
 use Rattle.load_map.proofs.Imaged.{length-bytes_of_map}
 use Rattle.fd_base.proofs.Lists.{all_back, all_front, zip_push}
 use Rattle.fd_base.proofs.Ranges.{is_outside}
+use Rattle.symbol_scope.specs.declared.tables.TheConstants.{MAX_MODULES}
 use Rattle.load_model.specs.declared.layout.TheConstants.{LOAD_MAP_SIZE}
 use Rattle.load_model.specs.declared.module.Joining.{Joining}
 use Rattle.load_model.specs.declared.plan.MemPlan.{MemPlan}
-use Rattle.load_model.specs.declared.plan.TheConstants.{DESCRIPTORS}
 use Rattle.load_model.specs.Image.{load_map_at}
 use Rattle.load_map.specs.Maps.{map_at}
 use Rattle.load_model.specs.Layout.{HasLoadMap, InMemory, IsLaidOut}
@@ -71,7 +71,7 @@ pub record IsBeside (maps : List (List MapEntry)) (j x : Joining) : Type 0 where
   pub number' : j.number ≢ x.number
   pub few : x.number < 64
   pub short : length (map_at maps x.number) ≤ 8
-  pub above : All (λ e. DESCRIPTORS ≤ e.addr) (map_at maps x.number)
+  pub above : All (λ e. load_map_at MAX_MODULES ≤ e.addr) (map_at maps x.number)
   pub apart : ModulesApart maps x j
 
 -- ---- the modules in memory
@@ -100,12 +100,12 @@ off_other_table : (m n a : ℕ) → m ≢ n → load_map_at n ≤ a → a < load
 off_other_table m n a other low high =
     is_outside (load_map_at m) LOAD_MAP_SIZE a (elim (cases_lt m n) [ inl lt ↦ inr (omega arith) | inr ge ↦ inl (let lt : n < m = omega (arith, other, ge) in omega arith) ])
 
-module _ (maps : List (List MapEntry)) (j : Joining) (images : List (List ℕ)) (mid new : GuestMemory) (few : j.number < 64) (above : All (λ (e : MapEntry). DESCRIPTORS ≤ e.addr) (map_at maps j.number)) (added : IsAdded j (map_at maps j.number) images mid new) where
+module _ (maps : List (List MapEntry)) (j : Joining) (images : List (List ℕ)) (mid new : GuestMemory) (few : j.number < 64) (above : All (λ (e : MapEntry). load_map_at MAX_MODULES ≤ e.addr) (map_at maps j.number)) (added : IsAdded j (map_at maps j.number) images mid new) where
   -- what lies below the modules is in no segment
-  off_low : (a : ℕ) → a < DESCRIPTORS → IsOff (map_at maps j.number) a
-  off_low a low = All-weaker (λ (e : MapEntry). DESCRIPTORS ≤ e.addr) (λ (e : MapEntry). is_in e.addr e.memsz a ≡ false) (λ e p. is_outside e.addr e.memsz a (inl (omega arith))) (map_at maps j.number) above
+  off_low : (a : ℕ) → a < load_map_at MAX_MODULES → IsOff (map_at maps j.number) a
+  off_low a low = All-weaker (λ (e : MapEntry). load_map_at MAX_MODULES ≤ e.addr) (λ (e : MapEntry). is_in e.addr e.memsz a ≡ false) (λ e p. is_outside e.addr e.memsz a (inl (omega arith))) (map_at maps j.number) above
 
-  segment_stays : (e : MapEntry) (i : ℕ) → DESCRIPTORS ≤ e.addr → All (PlacedApart e) (map_at maps j.number) → i < e.memsz → byte_at new (e.addr + i) ≡ byte_at mid (e.addr + i)
+  segment_stays : (e : MapEntry) (i : ℕ) → load_map_at MAX_MODULES ≤ e.addr → All (PlacedApart e) (map_at maps j.number) → i < e.memsz → byte_at new (e.addr + i) ≡ byte_at mid (e.addr + i)
   segment_stays e i high off l =
       added.rest (e.addr + i) (All-weaker (PlacedApart e) (λ (d : MapEntry). is_in d.addr d.memsz (e.addr + i) ≡ false) (λ d p. off_apart d e i l p) (map_at maps j.number) off)
       (is_outside (load_map_at j.number) LOAD_MAP_SIZE (e.addr + i) (inr (omega arith)))
@@ -115,7 +115,7 @@ module _ (maps : List (List MapEntry)) (j : Joining) (images : List (List ℕ)) 
 
   parts_stay : (x : Joining) (parts : List (List ℕ)) → IsBeside maps j x → HasParts mid maps x parts → HasParts new maps x parts
   parts_stay x parts beside has =
-      zip_weaker (λ (e : MapEntry). (DESCRIPTORS ≤ e.addr) × All (PlacedApart e) (map_at maps j.number)) (λ (e : MapEntry) (part : List ℕ). (i : ℕ) → i < e.memsz → byte_at mid (e.addr + i) ≡ slice_index part i)
+      zip_weaker (λ (e : MapEntry). (load_map_at MAX_MODULES ≤ e.addr) × All (PlacedApart e) (map_at maps j.number)) (λ (e : MapEntry) (part : List ℕ). (i : ℕ) → i < e.memsz → byte_at mid (e.addr + i) ≡ slice_index part i)
       (λ (e : MapEntry) (part : List ℕ). (i : ℕ) → i < e.memsz → byte_at new (e.addr + i) ≡ slice_index part i) (λ e part p had. λ i l. segment_stays e i p.0 p.1 l ∙ had i l) (map_at maps x.number) parts
       (λ k d l. (beside.above k d l, beside.apart k d l)) has
 

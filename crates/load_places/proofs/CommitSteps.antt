@@ -13,16 +13,20 @@ use Rattle.elf_model.specs.Sound.{IsSound}
 use Rattle.guest_mem.specs.Memory.{GuestMemory, byte_at}
 use Rattle.guest_mem.proofs.Keeping.{is_watched-same}
 use Rattle.load_memory.proofs.KeptLayout.{laid_out_alike, layouts_agree}
+use Rattle.symbol_scope.specs.declared.tables.TheConstants.{MAX_MODULES}
+use Rattle.load_model.specs.Joined.{Asked}
 use Rattle.load_model.specs.declared.module.Joining.{Joining}
 use Rattle.load_model.specs.declared.plan.MemPlan.{MemPlan}
-use Rattle.load_model.specs.declared.plan.TheConstants.{DESCRIPTORS, DESCRIPTOR_SIZE}
+use Rattle.load_model.specs.declared.plan.TheConstants.{DESCRIPTOR_SIZE}
 use Rattle.load_model.specs.Definition.{Linkage}
-use Rattle.load_model.specs.Image.{IsImage, IsPart, Placing, got_of, image_of, place_of}
+use Rattle.load_model.specs.Image.{load_map_at, IsImage, IsPart, Placing, got_of, image_of, place_of}
 use Rattle.load_map.specs.Maps.{map_at}
-use Rattle.load_model.specs.Layout.{HasLoadMap, HasPair, InMemory, IsLaidOut, slots_end}
+use Rattle.load_model.specs.Layout.{HasLoadMap, HasPair, InMemory, IsLaidOut}
 use Rattle.load_model.specs.Linkage.{joining_at, linkage_of}
-use Rattle.load_model.specs.Plan.{low_of}
+use Rattle.load_model.specs.Plan.{slots_end, low_of}
+use Rattle.load_model.proofs.PlanParts.{low_above}
 use Rattle.load_model.specs.Process.{object_at}
+use Rattle.load_model.specs.Unbound.{unbound_at_first, unbound_of}
 use Rattle.load_process.proofs.WalkFacts.{at_number}
 use Rattle.load_process.specs.parts.TakenObjects.{IsTaken}
 use Rattle.load_places.specs.parts.Modules.{HasModulesPut, HasParts, with_modules}
@@ -33,11 +37,10 @@ use Rattle.load_state.specs.Consistent.{IsConsistent, IsEntryOf}
 use Rattle.load_state.specs.Loaded.{Loaded, in_memory, placing_of}
 use Rattle.load_map.specs.Maps.{map_at}
 use Rattle.load_laws.specs.parts.Premises.{IsExtended}
-use Rattle.load_laws.proofs.AddressesApart.{low_above}
 use Rattle.fd_base.proofs.Options.{none_or}
 use Rattle.load_laws.proofs.RangesAfter.{joins_or_not}
 use Rattle.fd_base.proofs.Members.{contains_at}
-use Rattle.load_laws.proofs.Extension.{extended}
+use Rattle.load_laws.proofs.Extension.{extended, first_flags}
 use Rattle.load_laws.proofs.NewNumbers.{own_numbers, unused_numbers, sound_of}
 use Rattle.load_laws.proofs.FreeSlots.{given_slot}
 use Rattle.load_places.specs.parts.Laws.{StepsCommit}
@@ -48,7 +51,7 @@ use Rattle.load_places.proofs.PairedLists.{member_of_both, second_each}
 use Rattle.load_places.proofs.NewSegments.{free_at, map_left, new_entries}
 use Rattle.load_places.proofs.MemoryAfter.{load_map_stays, new_at, off_slots, old_at}
 
-module _ (l new : Loaded) (files : Option Files) (root : List ℕ) (asked : Bool) (plan : GroupPlan) (between : GuestMemory)
+module _ (l new : Loaded) (files : Option Files) (root : List ℕ) (asked : Asked) (plan : GroupPlan) (between : GuestMemory)
     (consistent : IsConsistent l) (planned : IsPlan l.modules files root asked plan) (taken : All (λ j. IsTaken j.object) plan.joining)
     (entered : IsEntered l.modules plan new.modules) (put : HasModulesPut plan.joining plan.maps plan.parts l.memory between)
     (slots : HasDescriptorsPut new.modules.process plan.maps plan.given between new.memory) where
@@ -109,12 +112,12 @@ module _ (l new : Loaded) (files : Option Files) (root : List ℕ) (asked : Bool
 
   -- ---- what the descriptors leave
 
-  slot_between : (f : Func) (at : ℕ) → Contains plan.given (f, at) → (DESCRIPTORS ≤ at) × (at + DESCRIPTOR_SIZE ≤ slots_end l.modules.plan)
+  slot_between : (f : Func) (at : ℕ) → Contains plan.given (f, at) → (load_map_at MAX_MODULES ≤ at) × (at + DESCRIPTOR_SIZE ≤ slots_end l.modules.plan)
   slot_between f at there =
       let slot = given_slot l.modules files root asked plan planned f at there in
-      (omega (arith, slot.2), slot_ends l.modules.plan l.modules.addrs at slot)
+      (omega (arith, consistent.fits.some_processes, slot.2), slot_ends l.modules.plan l.modules.addrs at consistent.fits slot)
 
-  same_below : (a : ℕ) → a < DESCRIPTORS → byte_at new.memory a ≡ byte_at between a
+  same_below : (a : ℕ) → a < load_map_at MAX_MODULES → byte_at new.memory a ≡ byte_at between a
   same_below a below = slots.stays a (off_slots plan.given (slots_end l.modules.plan) a slot_between (inl below))
 
   same_above : (a : ℕ) → slots_end l.modules.plan ≤ a → byte_at new.memory a ≡ byte_at between a
@@ -126,7 +129,7 @@ module _ (l new : Loaded) (files : Option Files) (root : List ℕ) (asked : Bool
   same_linkage = sym ext.linkage'
 
   abbrev made : (ℕ → List MapEntry) → (ℕ → Option ℕ) → (Func → Option ℕ) → Placing
-  made maps gots descriptors = record { maps = maps; gots = gots; descriptors = descriptors }
+  made maps gots descriptors = record { maps = maps; gots = gots; load_maps = load_map_at; descriptors = descriptors }
 
   same_placing : placing_by l.modules.process l.modules.addrs plan.joining plan.maps plan.adopted plan.given ≡ placing_of new.modules.process new.modules.maps new.modules.addrs
   same_placing =
@@ -136,12 +139,12 @@ module _ (l new : Loaded) (files : Option Files) (root : List ℕ) (asked : Bool
       ap (λ maps. made (map_at maps) p.gots p.descriptors) (sym entered.maps') ∙ ap (λ g. made n.maps g p.descriptors) gots
       ∙ ap (made n.maps n.gots) (fun_ext (λ f. sym (entered.addrs' f)))
 
-  same_image : (m : ℕ) (o : Object) (v : ℕ)
-      → image_of (linkage_for l.modules plan.joining plan.scope) (placing_by l.modules.process l.modules.addrs plan.joining plan.maps plan.adopted plan.given) m o v
-      ≡ image_of (linkage_of new.modules.process) (placing_of new.modules.process new.modules.maps new.modules.addrs) m o v
-  same_image m o v =
-      ap (λ q. image_of q (placing_by l.modules.process l.modules.addrs plan.joining plan.maps plan.adopted plan.given) m o v) same_linkage
-      ∙ ap (λ p. image_of (linkage_of new.modules.process) p m o v) same_placing
+  same_image : (m : ℕ) (o : Object) (unbound : List Bool) (v : ℕ)
+      → image_of (linkage_for l.modules plan.joining plan.scope) (placing_by l.modules.process l.modules.addrs plan.joining plan.maps plan.adopted plan.given) m o unbound v
+      ≡ image_of (linkage_of new.modules.process) (placing_of new.modules.process new.modules.maps new.modules.addrs) m o unbound v
+  same_image m o unbound v =
+      ap (λ q. image_of q (placing_by l.modules.process l.modules.addrs plan.joining plan.maps plan.adopted plan.given) m o unbound v) same_linkage
+      ∙ ap (λ p. image_of (linkage_of new.modules.process) p m o unbound v) same_placing
 
   abbrev IsFilled : MapEntry → List ℕ → Type 0
   IsFilled e part = (i : ℕ) → i < e.memsz → byte_at between (e.addr + i) ≡ slice_index part i
@@ -149,17 +152,21 @@ module _ (l new : Loaded) (files : Option Files) (root : List ℕ) (asked : Bool
   images : HasNewImages new plan.joining
   images j k e there at i lt =
       let es = map_at plan.maps j.number in
+      let first : List Bool = unbound_at_first plan.lazy j.object in
+      let flags : unbound_of new.modules.process j.number ≡ first =
+      first_flags l.modules new.modules files root asked plan consistent.valid planned entered.process' j there in
       let q = linkage_for l.modules plan.joining plan.scope in
       let p = placing_by l.modules.process l.modules.addrs plan.joining plan.maps plan.adopted plan.given in
       let listed : Contains es e = contains_at es k e (ap (λ (xs : List MapEntry). slice_get xs k) (sym (map_in j.number)) ∙ at) in
-      let parts = member_of_both (HasParts between plan.maps) (λ i parts. IsImage q p i.number i.object (map_at plan.maps i.number) parts)
+      let parts = member_of_both (HasParts between plan.maps) (λ i parts. IsImage q p i.number i.object (unbound_at_first plan.lazy i.object) (map_at plan.maps i.number) parts)
       plan.joining plan.parts j put.bytes planned.parts' there in
-      let part = member_of_both IsFilled (IsPart q p j.number j.object) es parts.0 e parts.1 parts.2 listed in
+      let part = member_of_both IsFilled (IsPart q p j.number j.object first) es parts.0 e parts.1 parts.2 listed in
       let low : low_of l.modules.plan ≤ e.addr = All-contains (λ (d : MapEntry). low_of l.modules.plan ≤ d.addr) es e
       (second_each (IsEntryOf l.modules.plan) (λ d. low_of l.modules.plan ≤ d.addr) (λ s d entry. entry.above) j.object.segments es
       (new_entries l files root asked plan consistent planned taken j there)) listed in
       let above : slots_end l.modules.plan ≤ low_of l.modules.plan = low_above l.modules.plan in
-      same_above (e.addr + i) (omega arith) ∙ part.1 i lt ∙ part.2.bytes i lt ∙ same_image j.number j.object (e.vaddr + i)
+      same_above (e.addr + i) (omega arith) ∙ part.1 i lt ∙ part.2.bytes i lt ∙ same_image j.number j.object first (e.vaddr + i)
+      ∙ ap (λ unbound. image_of (linkage_of new.modules.process) (placing_of new.modules.process new.modules.maps new.modules.addrs) j.number j.object unbound (e.vaddr + i)) (sym flags)
 
   -- ---- load maps, descriptors and all else
 

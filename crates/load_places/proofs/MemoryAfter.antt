@@ -10,8 +10,9 @@ use Rattle.guest_mem.specs.Memory.{GuestMemory, byte_at}
 use Rattle.load_map.specs.Image.{bytes_of_map}
 use Rattle.load_memory.specs.parts.Modules.{with_module}
 use Rattle.load_map.proofs.Imaged.{length-bytes_of_map}
+use Rattle.symbol_scope.specs.declared.tables.TheConstants.{MAX_MODULES}
 use Rattle.load_model.specs.declared.module.Joining.{Joining}
-use Rattle.load_model.specs.declared.plan.TheConstants.{DESCRIPTORS, DESCRIPTOR_SIZE}
+use Rattle.load_model.specs.declared.plan.TheConstants.{DESCRIPTOR_SIZE}
 use Rattle.load_model.specs.Layout.{HasLoadMap, InMemory}
 use Rattle.load_model.specs.Image.{load_map_at}
 use Rattle.load_map.specs.Maps.{map_at}
@@ -71,13 +72,13 @@ new_at mods (i ∷ joining) maps j own there =
 -- ---- bytes that descriptors leave
 
 -- what lies below the descriptors, or above them
-pub off_slots : (given : List (Func × ℕ)) (high a : ℕ) → ((f : Func) (at : ℕ) → Contains given (f, at) → (DESCRIPTORS ≤ at) × (at + DESCRIPTOR_SIZE ≤ high))
-    → (a < DESCRIPTORS) ⊎ (high ≤ a) → IsOffDescriptors given a
+pub off_slots : (given : List (Func × ℕ)) (high a : ℕ) → ((f : Func) (at : ℕ) → Contains given (f, at) → (load_map_at MAX_MODULES ≤ at) × (at + DESCRIPTOR_SIZE ≤ high))
+    → (a < load_map_at MAX_MODULES) ⊎ (high ≤ a) → IsOffDescriptors given a
 off_slots given high a between (inl below) = λ f at there. let slot = between f at there in is_outside at DESCRIPTOR_SIZE a (inl (omega (arith, slot.0)))
 off_slots given high a between (inr above) = λ f at there. let slot = between f at there in is_outside at DESCRIPTOR_SIZE a (inr (omega (arith, slot.1)))
 
 -- a load map stays where what lies below the descriptors does
-pub load_map_stays : (old new : GuestMemory) (m : ℕ) (es : List MapEntry) → m < 64 → length es ≤ 8 → ((a : ℕ) → a < DESCRIPTORS → byte_at new a ≡ byte_at old a)
+pub load_map_stays : (old new : GuestMemory) (m : ℕ) (es : List MapEntry) → m < 64 → length es ≤ 8 → ((a : ℕ) → a < load_map_at MAX_MODULES → byte_at new a ≡ byte_at old a)
     → HasLoadMap old m es → HasLoadMap new m es
 load_map_stays old new m es few short same has =
     let long : length (bytes_of_map es) ≡ 4 + 12 * length es = length-bytes_of_map es in

@@ -1,5 +1,5 @@
 -- Where the segments of new modules lie.
-use Rattle.std.proofs.Common.{◌≡◌, ◌≢◌, ℕ, ◌<◌, inl, inr, Bool, List, length, get_or, Option, Some, refl, sym, ap, subst, ◌∙◌, All}
+use Rattle.std.proofs.Common.{◌≡◌, ◌≢◌, ℕ, ◌<◌, inl, inr, List, length, get_or, Option, Some, refl, sym, ap, subst, ◌∙◌, All}
 use Rattle.std.specs.Prelude.{Contains, AllPairs}
 use Rattle.std.specs.List.{AllZip}
 use Rattle.std.proofs.lemmas.List.Elements.{All-contains}
@@ -9,6 +9,7 @@ use Rattle.elf_model.specs.declared.object.Object.{Object}
 use Rattle.placement.specs.declared.item.Held.{Held}
 use Rattle.placement.specs.Space.{all_held}
 use Rattle.load_map.specs.Whole.{PlacedApart}
+use Rattle.load_model.specs.Joined.{Asked}
 use Rattle.load_model.specs.declared.module.Joining.{Joining}
 use Rattle.load_model.specs.Plan.{low_of, high_of, listed_for}
 use Rattle.load_model.specs.Process.{object_at}
@@ -43,7 +44,7 @@ apart_modules l m n d ranges differ there = all_contained (PlacedApart d) (map_a
           | inr behind ↦ inl behind
         ]
 
-module _ (l : Loaded) (files : Option Files) (root : List ℕ) (asked : Bool) (plan : GroupPlan) (consistent : IsConsistent l)
+module _ (l : Loaded) (files : Option Files) (root : List ℕ) (asked : Asked) (plan : GroupPlan) (consistent : IsConsistent l)
     (planned : IsPlan l.modules files root asked plan) (taken : All (λ j. IsTaken j.object) plan.joining) where
   free_of : All (HasFreeNumber l.modules.process) plan.joining
   free_of = unused_numbers l.modules files root asked plan planned

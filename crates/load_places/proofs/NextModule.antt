@@ -15,8 +15,9 @@ use Rattle.fd_base.proofs.Lists.{all_from, all_at}
 use Rattle.fd_base.proofs.Ranges.{is_outside}
 use Rattle.load_memory.proofs.PlacingSteps.{entries_few}
 use Rattle.load_memory.proofs.PairedLists.{zip_at}
+use Rattle.symbol_scope.specs.declared.tables.TheConstants.{MAX_MODULES}
+use Rattle.load_model.specs.Image.{load_map_at}
 use Rattle.load_model.specs.declared.module.Joining.{Joining}
-use Rattle.load_model.specs.declared.plan.TheConstants.{DESCRIPTORS}
 use Rattle.fd_base.specs.Ranges.{is_in}
 use Rattle.load_state.specs.Committed.{IsSameAt}
 use Rattle.load_map.specs.Maps.{map_at}
@@ -33,13 +34,13 @@ parts_count old joining maps parts placeable = AllZip-long (IsPlaceable old maps
 record IsFit (maps : List (List MapEntry)) (x : Joining) : Type 0 where
   few : x.number < 64
   short : length (map_at maps x.number) ≤ 8
-  above : All (λ e. DESCRIPTORS ≤ e.addr) (map_at maps x.number)
+  above : All (λ e. load_map_at MAX_MODULES ≤ e.addr) (map_at maps x.number)
 
 fit : (memory : GuestMemory) (maps : List (List MapEntry)) (x : Joining) (parts : List (List ℕ)) → IsPlaceable memory maps x parts → IsFit maps x
 fit memory maps x parts p = record {
   few = p.number';
   short = entries_few x.object (map_at maps x.number) p.sound p.segments;
-  above = All-weaker (LiesWithin DESCRIPTORS (length memory.bytes)) (λ (e : MapEntry). DESCRIPTORS ≤ e.addr) (λ e within. within.0) (map_at maps x.number) p.inside;
+  above = All-weaker (LiesWithin (load_map_at MAX_MODULES) (length memory.bytes)) (λ (e : MapEntry). load_map_at MAX_MODULES ≤ e.addr) (λ e within. within.0) (map_at maps x.number) p.inside;
 }
 
 off_there : (d e : MapEntry) (a : ℕ) → PlacedApart d e → e.addr ≤ a → a < e.addr + e.memsz → is_in d.addr d.memsz a ≡ false
@@ -51,8 +52,8 @@ pub record IsNext (now : GuestMemory) (j : Joining) (es : List MapEntry) (parts 
   pub number' : j.number < 64
   pub sound : IsSound j.object
   pub segments : AllZip IsPlacedBy j.object.segments es
-  pub tables : DESCRIPTORS ≤ length now.bytes
-  pub inside : All (LiesWithin DESCRIPTORS (length now.bytes)) es
+  pub tables : load_map_at MAX_MODULES ≤ length now.bytes
+  pub inside : All (LiesWithin (load_map_at MAX_MODULES) (length now.bytes)) es
   pub free : All (λ e. HaveKind now e.addr e.memsz None) es
   pub apart : AllPairs PlacedApart es
   pub sizes : AllZip (λ e part. length part ≡ e.memsz) es parts
@@ -99,7 +100,7 @@ module _ (old now : GuestMemory) (joining : List Joining) (maps : List (List Map
       sound = this.sound;
       segments = this.segments;
       tables = let size : length now.bytes ≡ length old.bytes = done.size in omega (arith, placeable.tables);
-      inside = subst (λ n. All (LiesWithin DESCRIPTORS n) (map_at maps j.number)) (sym done.size) this.inside;
+      inside = subst (λ n. All (LiesWithin (load_map_at MAX_MODULES) n) (map_at maps j.number)) (sym done.size) this.inside;
       free = all_from (λ (e : MapEntry). HaveKind now e.addr e.memsz None) (map_at maps j.number) free_there;
       apart = this.apart;
       sizes = this.sizes;

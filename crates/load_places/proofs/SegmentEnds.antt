@@ -1,5 +1,5 @@
 -- Placed segments end below 2^32.
-use Rattle.std.proofs.Common.{ℕ, ◌^◌, ◌<◌, inl, inr, Bool, List, [], Option, sym, subst, arith, All}
+use Rattle.std.proofs.Common.{ℕ, ◌^◌, ◌<◌, inl, inr, List, [], Option, sym, subst, arith, All}
 use Rattle.std.specs.List.{AllZip}
 use Rattle.std.proofs.lemmas.List.{get_or_default}
 use Rattle.std.proofs.lemmas.List.Elements.{All-nil}
@@ -7,6 +7,7 @@ use Rattle.load_map.specs.declared.entry.MapEntry.{MapEntry}
 use Rattle.fd_base.specs.Fetched.{Files}
 use Rattle.elf_model.specs.declared.object.Segment.{Segment}
 use Rattle.load_map.specs.parts.IsLoadMap.{EndsBelow}
+use Rattle.load_model.specs.Joined.{Asked}
 use Rattle.load_model.specs.declared.plan.MemPlan.{MemPlan}
 use Rattle.load_model.specs.Plan.{high_of}
 use Rattle.load_model.specs.Process.{object_at}
@@ -44,7 +45,7 @@ maps_end_lem = record {
   new = λ l files root asked plan consistent planned taken small. by_number plan.maps (λ m. new_ends l files root asked plan consistent planned taken small m);
 }
   where
-    new_ends : (l : Loaded) (files : Option Files) (root : List ℕ) (asked : Bool) (plan : GroupPlan) → IsConsistent l → IsPlan l.modules files root asked plan
+    new_ends : (l : Loaded) (files : Option Files) (root : List ℕ) (asked : Asked) (plan : GroupPlan) → IsConsistent l → IsPlan l.modules files root asked plan
         → All (λ j. IsTaken j.object) plan.joining → l.modules.plan.memory < 2 ^ 32 → (m : ℕ) → All EndsBelow (map_at plan.maps m)
     new_ends l files root asked plan consistent planned taken small m =
         elim (joins_or_not plan.joining m) [

@@ -1,11 +1,13 @@
 pub mod EnteredMaps
 pub mod LaidSegments
 pub mod LinkRefusals
+pub mod MadeLists
 pub mod NewItems
 pub mod PairedLists
 pub mod Placings
 pub mod PlanSteps
 pub mod SiteRoom
 pub mod SiteValues
+pub mod SlotTargets
 pub mod TableSteps
 pub mod WalkedModules

@@ -1,5 +1,5 @@
 -- Where modules are placed, by tables and by definition.
-use Rattle.std.proofs.Common.{◌≡◌, ℕ, ◌<◌, ◌≤◌, inl, inr, List, [], ◌∷◌, length, get_or, map, Option, Some, None, refl, sym, ap, subst, ◌∙◌, arith, All}
+use Rattle.std.proofs.Common.{◌≡◌, ℕ, ◌<◌, ◌≤◌, inl, inr, Bool, List, [], ◌∷◌, length, get_or, map, Option, Some, None, refl, sym, ap, subst, ◌∙◌, arith, All}
 use Rattle.std.specs.Prelude.{slice_get, option_map, option_and_then, ◌==◌}
 use Rattle.std.specs.FinMap.{get}
 use Rattle.std.specs.List.{AllZip, range_with_len}
@@ -15,7 +15,7 @@ use Rattle.load_model.specs.declared.module.Live.{Live}
 use Rattle.load_model.specs.declared.module.SymbolicProcess.{SymbolicProcess}
 use Rattle.load_model.specs.Definition.{Linkage}
 use Rattle.load_model.specs.Descriptors.{descriptors_after}
-use Rattle.load_model.specs.Image.{Placing}
+use Rattle.load_model.specs.Image.{load_map_at, Placing}
 use Rattle.load_map.specs.Maps.{map_at}
 use Rattle.load_model.specs.Linkage.{joining_at}
 use Rattle.load_model.specs.Process.{object_at}
@@ -70,7 +70,7 @@ same_got_at p joining size small = fun_ext each
 -- ---- all of it
 
 abbrev placing_from : (ℕ → List MapEntry) → (ℕ → Option ℕ) → (Func → Option ℕ) → Placing
-placing_from maps gots descriptors = record { maps = maps; gots = gots; descriptors = descriptors }
+placing_from maps gots descriptors = record { maps = maps; gots = gots; load_maps = load_map_at; descriptors = descriptors }
 
 pub same_placing : (p : SymbolicProcess) (joining : List Joining) (t : PlaceTables) → length p.modules ≡ 64 → All (λ j. j.number < 64) joining
     → t.gots ≡ map (gots_of p joining) (range_with_len 0 64) → placing_in t ≡ placing_by p t.descriptors.had joining t.maps t.descriptors.privates t.descriptors.given
@@ -79,8 +79,8 @@ same_placing p joining t size small gots =
     ap (λ got. placing_from (map_at t.maps) got addr) (ap got_in gots ∙ same_got_at p joining size small)
 
 -- the parts of new modules, by tables and by definition
-pub finished_by : (l : Linkage) (p : SymbolicProcess) (joining : List Joining) (t : PlaceTables) (parts : List (List (List ℕ))) → length p.modules ≡ 64 → All (λ j. j.number < 64) joining
-    → t.gots ≡ map (gots_of p joining) (range_with_len 0 64) → AllZip (AreImages l (placing_in t) (map_at t.maps)) joining parts
-    → AreFinished l (placing_by p t.descriptors.had joining t.maps t.descriptors.privates t.descriptors.given) joining t.maps parts
-finished_by l p joining t parts size small gots made =
-    subst (λ (placing : Placing). AllZip (AreImages l placing (map_at t.maps)) joining parts) (same_placing p joining t size small gots) made
+pub finished_by : (l : Linkage) (p : SymbolicProcess) (lazy : Bool) (joining : List Joining) (t : PlaceTables) (parts : List (List (List ℕ))) → length p.modules ≡ 64 → All (λ j. j.number < 64) joining
+    → t.gots ≡ map (gots_of p joining) (range_with_len 0 64) → AllZip (AreImages l (placing_in t) lazy (map_at t.maps)) joining parts
+    → AreFinished l (placing_by p t.descriptors.had joining t.maps t.descriptors.privates t.descriptors.given) lazy joining t.maps parts
+finished_by l p lazy joining t parts size small gots made =
+    subst (λ (placing : Placing). AllZip (AreImages l placing lazy (map_at t.maps)) joining parts) (same_placing p joining t size small gots) made

@@ -1,23 +1,25 @@
 -- The plan of a load, and its refusals, from its steps.
-use Rattle.std.proofs.Common.{◌≡◌, ℕ, ◌≤◌, Bool, List, length, map, Option, ap, subst, ◌∙◌, arith}
+use Rattle.std.proofs.Common.{◌≡◌, ℕ, ◌≤◌, Bool, List, length, map, Option, refl, ap, subst, ◌∙◌, arith}
 use Rattle.std.specs.Prelude.{filter, not}
 use Rattle.std.specs.List.{range_with_len, zip}
 use Rattle.fd_base.specs.Fetched.{Files}
+use Rattle.elf_model.specs.declared.func.Func.{Func}
 use Rattle.func_desc.specs.Functions.{has_addr}
 use Rattle.func_desc.specs.Pool.{Pool, free_slots, slot_addr}
 use Rattle.placement.specs.Placed.{Placed, FailsAt}
 use Rattle.placement.specs.Space.{Space}
+use Rattle.symbol_scope.specs.declared.table.Table.{Table}
 use Rattle.load_model.specs.declared.error.LoadErr.{LoadErr}
 use Rattle.load_model.specs.declared.error.LoadErr.TheVariants.{Refused, StoreFault, Memory as NoMemory}
 use Rattle.load_model.specs.declared.error.LoadRefusal.TheVariants.{NotBuilt, Elf, NoFile, TooLong, TooManyModules, Unresolved, NotCode, DescriptorsFull, NoRoom, BadAddress}
 use Rattle.load_model.specs.Explains.{Explains}
-use Rattle.load_model.specs.Joined.{global_after}
+use Rattle.load_model.specs.Joined.{Asked, flags_of, global_after}
 use Rattle.load_model.specs.Linkage.{linkage_with}
-use Rattle.load_model.specs.Plan.{low_of}
+use Rattle.load_model.specs.Plan.{descriptors_at, low_of}
 use Rattle.load_image.specs.Places.{placed_pairs_of}
 use Rattle.load_state.specs.Loaded.{pool_of}
 use Rattle.load_state.specs.declared.plan.GroupPlan.{GroupPlan}
-use Rattle.load_state.specs.Accepted.{IsPlan, all_items, wanted_by, AreFinished, placing_by}
+use Rattle.load_state.specs.Accepted.{IsPlan, all_items, tables_of, targets_for, wanted_by, AreFinished, placing_by}
 use Rattle.load_state.specs.Refused.{IsRefused}
 use Rattle.load_plan.specs.declared.layout.Layout.{Layout}
 use Rattle.load_plan.specs.declared.layout.Standing.{Standing}
@@ -30,7 +32,7 @@ abbrev slots_from : Pool → ℕ → ℕ → List ℕ
 slots_from pool base slots = filter (λ a. not (has_addr pool.addrs a)) (map (slot_addr base) (range_with_len 0 slots))
 
 same_free : (s : Standing) (space : Space) (pool : Pool) → IsRoomy s space pool → free_slots pool ≡ free_slots (pool_of s.plan.now pool.addrs)
-same_free s space pool roomy = ap (λ base. slots_from pool base pool.slots) roomy.base' ∙ ap (λ slots. slots_from pool 0x3000 slots) roomy.slots'
+same_free s space pool roomy = ap (λ base. slots_from pool base pool.slots) roomy.base' ∙ ap (λ slots. slots_from pool (descriptors_at s.plan.now) slots) roomy.slots'
 
 enough_by : (s : Standing) (space : Space) (pool : Pool) (files : Option Files) (root : List ℕ) (linked : Linked) → IsRoomy s space pool
     → IsLinked s.process.now pool.addrs files root linked → length linked.wanted ≤ length (free_slots pool)
@@ -41,10 +43,14 @@ enough_by s space pool files root linked roomy is enough =
     omega (arith, free, wanted, enough)
 
 -- what the plan has of what is linked and laid out
-abbrev pub plan_from : Linked → Layout → List ℕ → List (List (List ℕ)) → GroupPlan
-plan_from linked layout global parts = record {
+abbrev pub plan_from : Linked → Layout → Bool → List (List Bool) → List (List (Option Func)) → List Table → List ℕ → List (List (List ℕ)) → GroupPlan
+plan_from linked layout lazy unbound targets tables global parts = record {
   root = linked.root;
   joining = linked.joining;
+  lazy = lazy;
+  unbound = unbound;
+  targets = targets;
+  tables = tables;
   scope = linked.scope;
   global = global;
   items = layout.items;
@@ -55,18 +61,23 @@ plan_from linked layout global parts = record {
   parts = parts;
 }
 
-pub planned : (s : Standing) (space : Space) (pool : Pool) (files : Option Files) (root : List ℕ) (asked : Bool) (linked : Linked) (layout : Layout)
-    (global : List ℕ) (parts : List (List (List ℕ))) → IsRoomy s space pool → IsLinked s.process.now pool.addrs files root linked → IsLaid s space pool linked layout
-    → global ≡ global_after s.process.now asked linked.scope
+pub planned : (s : Standing) (space : Space) (pool : Pool) (files : Option Files) (root : List ℕ) (asked : Asked) (linked : Linked) (layout : Layout)
+    (unbound : List (List Bool)) (targets : List (List (Option Func))) (tables : List Table) (global : List ℕ) (parts : List (List (List ℕ))) → IsRoomy s space pool
+    → IsLinked s.process.now pool.addrs files root linked → IsLaid s space pool linked layout → unbound ≡ flags_of asked.lazy linked.joining
+    → targets ≡ targets_for (loaded_by s space pool) linked.joining linked.scope → tables ≡ tables_of linked.joining → global ≡ global_after s.process.now asked.global linked.scope
     → AreFinished (linkage_with s.process.now linked.joining linked.scope)
-    (placing_by s.process.now pool.addrs linked.joining layout.maps layout.adopted layout.given) linked.joining layout.maps parts
-    → IsPlan (loaded_by s space pool) files root asked (plan_from linked layout global parts)
-planned s space pool files root asked linked layout global parts roomy is laid global' finished =
+    (placing_by s.process.now pool.addrs linked.joining layout.maps layout.adopted layout.given) asked.lazy linked.joining layout.maps parts
+    → IsPlan (loaded_by s space pool) files root asked (plan_from linked layout asked.lazy unbound targets tables global parts)
+planned s space pool files root asked linked layout unbound targets tables global parts roomy is laid flags slots exported global' finished =
     let l = loaded_by s space pool in
     record {
       scoped = is.scoped;
       root' = is.root';
       global' = global';
+      lazy' = refl;
+      unbound' = flags;
+      targets' = slots;
+      tables' = exported;
       filled = is.filled;
       enough = enough_by s space pool files root linked roomy is laid.enough;
       items' = laid.items';

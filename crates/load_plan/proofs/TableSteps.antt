@@ -1,25 +1,29 @@
 -- Tables that are taken out and added.
-use Rattle.std.proofs.Common.{◌≡◌, ◌≢◌, ℕ, zero, suc, ◌+◌, ◌<◌, ◌≤◌, inl, inr, Bool, true, false, cond, List, [], ◌∷◌, ◌++◌, length, get_or, set, take, Option, Some, None, refl, sym, ap, subst, ◌∙◌, arith, All}
+use Rattle.std.proofs.Common.{◌≡◌, ◌≢◌, ℕ, zero, suc, ◌+◌, ◌<◌, ◌≤◌, inl, inr, true, false, List, [], ◌∷◌, ◌++◌, length, get_or, set, take, drop, Option, Some, None, refl, sym, ap, subst, ◌∙◌, arith, All}
 use Rattle.std.specs.Prelude.{slice_set, option_map, is_some, ◌==◌}
 use Rattle.std.specs.Option.{option_or}
-use Rattle.std.proofs.lemmas.Bool.{cases_Bool, cases_eq, cases_lt, false≢true, eqb-true, eq-eqb}
-use Rattle.std.proofs.lemmas.List.{length-set, take_more}
-use Rattle.std.proofs.lemmas.List.Elements.{All-nil, All-cons, All-head, All-tail, All-take}
-use Rattle.fd_base.proofs.Options.{or_none, none_or}
+use Rattle.std.proofs.lemmas.Bool.{cases_eq, cases_lt, false≢true, eq-eqb}
+use Rattle.std.proofs.lemmas.List.{length-set, take_all}
+use Rattle.std.proofs.lemmas.List.Elements.{All-nil, All-head, All-tail, All-take, All-push, All-contains}
+use Rattle.fd_base.proofs.Finding.{none_found}
+use Rattle.fd_base.proofs.Lists.{all_back, all_front}
+use Rattle.fd_base.proofs.Options.{none_or}
+use Rattle.load_process.proofs.WalkFacts.{at_number}
 use Rattle.load_laws.proofs.ModulesAfter.{old_number}
 use Rattle.elf_model.specs.declared.object.Object.{Object}
 use Rattle.symbol_scope.specs.declared.table.Table.{Table}
-use Rattle.symbol_scope.specs.parts.Exports.{ExportMap, exports_of}
+use Rattle.symbol_scope.specs.Exports.{ExportMap, exports_of}
 use Rattle.symbol_scope.specs.parts.Needs.{table_at}
 use Rattle.symbol_scope.specs.parts.Slots.{Slots}
-use Rattle.symbol_scope.specs.parts.Table.{table_of}
+use Rattle.symbol_scope.specs.Table.{table_of}
 use Rattle.load_model.specs.declared.module.Joining.{Joining}
 use Rattle.load_model.specs.declared.module.SymbolicProcess.{SymbolicProcess}
 use Rattle.load_model.specs.Linkage.{joining_at, linkage_with}
 use Rattle.load_model.specs.declared.module.Live.{Live}
 use Rattle.load_model.specs.Process.{object_at, is_live, live_at}
 use Rattle.load_laws.specs.parts.Premises.{HaveOwnNumbers, HasFreeNumber}
-use Rattle.load_plan.specs.parts.Tables.{AreTables, HasTables, exports_at}
+use Rattle.load_plan.specs.parts.Tables.{ArePut, AreTables, HasTable, HasTables, exports_at}
+use Rattle.load_plan.proofs.MadeLists.{earlier_apart, from_next, up_to_next}
 
 -- ---- one table
 
@@ -104,86 +108,114 @@ dropped_all p slots few was = record {
   ];
 }
 
--- ---- tables that are added
+-- ---- tables that are put in
 
--- the tables of live modules and of new ones
-pub record IsAdded (p : SymbolicProcess) (joining : List Joining) (slots : Slots) : Type 0 where
-  pub size : length slots ≡ 64
-  pub each : (m : ℕ) → exports_at slots m ≡ option_map (λ o. exports_of o.symbols) (option_or (option_map (λ j. j.object) (joining_at joining m)) (object_at p m))
+pub put_none : (slots : Slots) → ArePut [] slots slots
+put_none slots = record { size = refl; each = All-nil (HasTable slots); others = λ m others. refl }
 
-pub add_none : (p : SymbolicProcess) (slots : Slots) → AreTables (object_at p) slots → IsAdded p [] slots
-add_none p slots are = record { size = are.size; each = are.each }
-
-joining_more : (joining : List Joining) (j : Joining) (m : ℕ) → joining_at (joining ++ j ∷ []) m ≡ option_or (joining_at joining m) (cond (j.number == m) (Some j) None)
-joining_more [] j m = one (j.number == m)
-  where
-    one : (b : Bool) → cond b (Some j) None ≡ cond b (Some j) None
-    one b = refl
-joining_more (i ∷ joining) j m =
-    elim (cases_Bool (i.number == m)) [
-      | inl here ↦ rw here refl
-      | inr other ↦ rw other (joining_more joining j m)
-    ]
-
-none_joins : (before : List Joining) (m : ℕ) → All (λ i. i.number ≢ m) before → joining_at before m ≡ None
-none_joins [] m others = refl
-none_joins (i ∷ before) m others =
-    elim (cases_Bool (i.number == m)) [
-      | inl here ↦ absurd (All-head (λ (x : Joining). x.number ≢ m) i before others (eqb-true i.number m here))
-      | inr other ↦ rw other (none_joins before m (All-tail (λ (x : Joining). x.number ≢ m) i before others))
-    ]
-
-abbrev exports_with : SymbolicProcess → List Joining → ℕ → Option ExportMap
-exports_with p joining m = option_map (λ o. exports_of o.symbols) (option_or (option_map (λ j. j.object) (joining_at joining m)) (object_at p m))
-
-pub add_one : (p : SymbolicProcess) (before : List Joining) (j : Joining) (slots : Slots) → HasFreeNumber p j → All (λ i. i.number ≢ j.number) before → IsAdded p before slots
-    → IsAdded p (before ++ j ∷ []) (slice_set slots j.number (Some (table_of j.name j.object)))
-add_one p before j slots free others was = record {
-  size = length-set slots j.number (Some (table_of j.name j.object)) ∙ was.size;
-  each = λ m. elim (cases_Bool (j.number == m)) [
-    | inl here ↦
-        let same : j.number ≡ m = eqb-true j.number m here in
-        let none : joining_at before m ≡ None = none_joins before m (subst (λ (x : ℕ). All (λ i. i.number ≢ x) before) same others) in
-        let found : joining_at (before ++ j ∷ []) m ≡ Some j = joining_more before j m ∙ rw (none, here) refl in
-        let left : exports_at (set slots j.number (Some (table_of j.name j.object))) m ≡ Some (exports_of j.object.symbols) =
-        ap (option_map (λ (t : Table). t.exports)) (ap (table_at (set slots j.number (Some (table_of j.name j.object)))) (sym same) ∙ set_same slots j.number (Some (table_of j.name j.object)) (omega (arith, free.0, was.size))) in
-        left ∙ sym (ap (λ (o : Option Joining). option_map (λ (x : Object). exports_of x.symbols) (option_or (option_map (λ (i : Joining). i.object) o) (object_at p m))) found)
-    | inr other ↦
-        let differ : m ≢ j.number = λ is. false≢true (sym other ∙ eq-eqb j.number m (sym is)) in
-        let same : joining_at (before ++ j ∷ []) m ≡ joining_at before m = joining_more before j m ∙ rw other (or_none (joining_at before m)) in
-        ap (option_map (λ (t : Table). t.exports)) (set_other slots j.number m (Some (table_of j.name j.object)) differ)
-        ∙ was.each m
-        ∙ sym (ap (λ (o : Option Joining). option_map (λ (x : Object). exports_of x.symbols) (option_or (option_map (λ (i : Joining). i.object) o) (object_at p m))) same)
-  ];
-}
-
--- the numbers before one are others
-own_before : (joining : List Joining) (k : ℕ) (d : Joining) → HaveOwnNumbers joining → k < length joining → All (λ i. i.number ≢ (get_or joining k d).number) (take k joining)
-own_before [] k d own lt = absurd (omega arith)
-own_before (j ∷ joining) zero d own lt = All-nil (λ (i : Joining). i.number ≢ j.number)
-own_before (j ∷ joining) (suc k) d own lt =
-    let here : j.number ≢ (get_or joining k d).number = λ is. own.0 k d (omega arith) (sym is) in
-    All-cons (λ (i : Joining). i.number ≢ (get_or joining k d).number) j (take k joining) here (own_before joining k d own.1 (omega arith))
+pub put_one : (before : List Joining) (j : Joining) (old now : Slots) → j.number < length old → All (λ i. i.number ≢ j.number) before → ArePut before old now
+    → ArePut (before ++ j ∷ []) old (slice_set now j.number (Some (table_of j.name j.object)))
+put_one before j old now small others was =
+    let table : Option Table = Some (table_of j.name j.object) in
+    record {
+      size = length-set now j.number table ∙ was.size;
+      each = All-push (HasTable (set now j.number table)) before j
+          (λ k d lt. set_other now j.number (get_or before k d).number table (others k d lt) ∙ was.each k d lt)
+          (set_same now j.number table (omega (arith, small, was.size)));
+      others = λ m apart.
+          let last : j.number ≢ m = All-head (λ (i : Joining). i.number ≢ m) j [] (all_back (λ (i : Joining). i.number ≢ m) before (j ∷ []) apart) in
+          set_other now j.number m table (λ is. last (sym is)) ∙ was.others m (all_front (λ (i : Joining). i.number ≢ m) before (j ∷ []) apart);
+    }
 
 -- one more of them
-pub add_next : (p : SymbolicProcess) (joining : List Joining) (k : ℕ) (d : Joining) (slots : Slots) → HaveOwnNumbers joining → All (HasFreeNumber p) joining → k < length joining
-    → IsAdded p (take k joining) slots → IsAdded p (take (k + 1) joining) (slice_set slots (get_or joining k d).number (Some (table_of (get_or joining k d).name (get_or joining k d).object)))
-add_next p joining k d slots own free lt was =
-    let more : take (k + 1) joining ≡ take k joining ++ get_or joining k d ∷ [] = take_more joining k d lt in
-    rw more (add_one p (take k joining) (get_or joining k d) slots (free k d lt) (own_before joining k d own lt) was)
+pub put_next : (joining : List Joining) (k : ℕ) (j : Joining) (old now : Slots) → HaveOwnNumbers joining → All (λ i. i.number < length old) joining → k < length joining → j ≡ get_or joining k j
+    → ArePut (take k joining) old now → ArePut (take (k + 1) joining) old (slice_set now j.number (Some (table_of j.name j.object)))
+put_next joining k j old now own small lt is was =
+    let more : take (k + 1) joining ≡ take k joining ++ j ∷ [] = up_to_next joining k j lt is in
+    let within : j.number < length old = subst (λ (x : Joining). x.number < length old) (sym is) (small k j lt) in
+    rw more (put_one (take k joining) j old now within (earlier_apart joining k j own lt is) was)
 
-pub added_all : (p : SymbolicProcess) (joining : List Joining) (scope : List ℕ) (slots : Slots) → IsAdded p joining slots → AreTables (linkage_with p joining scope).objects slots
-added_all p joining scope slots was = record { size = was.size; each = was.each }
+-- those of all, where no module is left
+pub put_all : (joining : List Joining) (k : ℕ) (old now : Slots) → length joining ≤ k → ArePut (take k joining) old now → ArePut joining old now
+put_all joining k old now le was = subst (λ (js : List Joining). ArePut js old now) (take_all k joining le) was
 
-pub added_live : (p : SymbolicProcess) (joining : List Joining) (slots : Slots) → All (HasFreeNumber p) joining → IsAdded p joining slots → HasTables p slots
-added_live p joining slots free was = record {
-  size = was.size;
-  live = λ m o live.
-      let not = old_number p joining m o free live in
-      was.each m ∙ ap (λ (found : Option Joining). option_map (λ (x : Object). exports_of x.symbols) (option_or (option_map (λ (i : Joining). i.object) found) (object_at p m))) (none_joins joining m not)
-      ∙ ap (option_map (λ (x : Object). exports_of x.symbols)) live;
+-- there are places for one more
+pub room_next : (joining : List Joining) (k : ℕ) (j : Joining) (old new : ℕ) → k < length joining → j ≡ get_or joining k j → old ≤ new → j.number < new
+    → All (λ i. i.number < old) (take k joining) → All (λ i. i.number < new) (take (k + 1) joining)
+room_next joining k j old new lt is grows here was =
+    let more : take (k + 1) joining ≡ take k joining ++ j ∷ [] = up_to_next joining k j lt is in
+    rw more
+    (All-push (λ (i : Joining). i.number < new) (take k joining) j
+    (λ i d within. let before : (get_or (take k joining) i d).number < old = was i d within in omega arith) here)
+
+-- ---- what the tables are then
+
+abbrev exported_by : SymbolicProcess → ℕ → Option Joining → Option ExportMap
+exported_by p m new = option_map (λ (o : Object). exports_of o.symbols) (option_or (option_map (λ (j : Joining). j.object) new) (object_at p m))
+
+-- where the tables were those of live modules alone, they are those of live and of new ones
+pub put_added : (p : SymbolicProcess) (joining : List Joining) (scope : List ℕ) (old new : Slots) → AreTables (object_at p) old → ArePut joining old new
+    → AreTables (linkage_with p joining scope).objects new
+put_added p joining scope old new are put = record { size = put.size ∙ are.size; each = λ m. by m (joining_at joining m) refl }
+  where
+    apart : (m : ℕ) → joining_at joining m ≡ None → All (λ j. j.number ≢ m) joining
+    apart m none = λ k d lt is. false≢true (sym (none_found (λ (j : Joining). j.number == m) joining none k d lt) ∙ eq-eqb (get_or joining k d).number m is)
+
+    by : (m : ℕ) (x : Option Joining) → joining_at joining m ≡ x → exports_at new m ≡ exported_by p m (joining_at joining m)
+    by m None none =
+        ap (option_map (λ (t : Table). t.exports)) (put.others m (apart m none)) ∙ are.each m ∙ sym (ap (exported_by p m) none)
+    by m (Some j) some =
+        let at = at_number p joining m j some in
+        ap (exports_at new) (sym at.1) ∙ ap (option_map (λ (t : Table). t.exports)) (All-contains (HasTable new) joining j put.each at.0) ∙ sym (ap (exported_by p m) some)
+
+pub tables_live : (p : SymbolicProcess) (slots : Slots) → AreTables (object_at p) slots → HasTables p slots
+tables_live p slots are = record { size = are.size; live = λ m o live. are.each m ∙ ap (option_map (λ (x : Object). exports_of x.symbols)) live }
+
+-- live modules keep theirs
+pub put_live : (p : SymbolicProcess) (joining : List Joining) (old new : Slots) → All (HasFreeNumber p) joining → HasTables p old → ArePut joining old new → HasTables p new
+put_live p joining old new free has put = record {
+  size = put.size ∙ has.size;
+  live = λ m o live. ap (option_map (λ (t : Table). t.exports)) (put.others m (old_number p joining m o free live)) ∙ has.live m o live;
 }
 
--- those so far are enough for what is live
-pub added_so_far : (p : SymbolicProcess) (joining : List Joining) (k : ℕ) (slots : Slots) → All (HasFreeNumber p) joining → IsAdded p (take k joining) slots → HasTables p slots
-added_so_far p joining k slots free was = added_live p (take k joining) slots (All-take (HasFreeNumber p) k joining free) was
+-- while some are put in
+pub put_so_far : (p : SymbolicProcess) (joining : List Joining) (k : ℕ) (old now : Slots) → All (HasFreeNumber p) joining → AreTables (object_at p) old → ArePut (take k joining) old now → HasTables p now
+put_so_far p joining k old now free are was = put_live p (take k joining) old now (All-take (HasFreeNumber p) k joining free) (tables_live p old are) was
+
+-- ---- tables that are taken into a plan
+
+own_drop : (n : ℕ) (joining : List Joining) → HaveOwnNumbers joining → HaveOwnNumbers (drop n joining)
+own_drop zero joining own = own
+own_drop (suc n) [] own = tt
+own_drop (suc n) (j ∷ joining) own = own_drop n joining own.1
+
+-- the next module has its table
+pub next_has : (joining : List Joining) (k : ℕ) (j : Joining) (slots : Slots) → k < length joining → j ≡ get_or joining k j → All (HasTable slots) (drop k joining) → HasTable slots j
+next_has joining k j slots lt is left =
+    All-head (HasTable slots) j (drop (k + 1) joining) (subst (All (HasTable slots)) (from_next joining k j lt is) left)
+
+-- where it is taken out, the later ones have theirs
+pub left_after : (joining : List Joining) (k : ℕ) (j : Joining) (old new : Slots) → HaveOwnNumbers joining → k < length joining → j ≡ get_or joining k j
+    → new ≡ slice_set old j.number None → All (HasTable old) (drop k joining) → All (HasTable new) (drop (k + 1) joining)
+left_after joining k j old new own lt is step left =
+    let rest : List Joining = drop (k + 1) joining in
+    let numbers : HaveOwnNumbers (j ∷ rest) = subst HaveOwnNumbers (from_next joining k j lt is) (own_drop k joining own) in
+    let later : All (HasTable old) rest = All-tail (HasTable old) j rest (subst (All (HasTable old)) (from_next joining k j lt is) left) in
+    λ i d within.
+    subst (λ (slots : Slots). HasTable slots (get_or rest i d)) (sym step)
+    (set_other old j.number (get_or rest i d).number None (numbers.0 i d within) ∙ later i d within)
+
+-- and so have the live ones
+pub live_after : (p : SymbolicProcess) (j : Joining) (old new : Slots) → HasFreeNumber p j → new ≡ slice_set old j.number None → HasTables p old → HasTables p new
+live_after p j old new free step has =
+    subst (HasTables p) (sym step)
+    (record {
+      size = length-set old j.number None ∙ has.size;
+      live = λ m o live. ap (option_map (λ (t : Table). t.exports)) (set_other old j.number m None (other m o live)) ∙ has.live m o live;
+    })
+  where
+    other : (m : ℕ) (o : Object) → object_at p m ≡ Some o → m ≢ j.number
+    other m o live is =
+        let none : object_at p m ≡ None = subst (λ (n : ℕ). object_at p n ≡ None) (sym is) free.1 in
+        let never : None ≡ Some o = sym none ∙ live in
+        absurd cc

@@ -59,7 +59,7 @@ few_of p joining m o (Some j) at taken few is =
     let le : length j.object.symbols ≤ 65536 = (All-contains (λ i. IsTaken i.object) joining j taken (found_in joining m j at)).few in
     subst (λ (x : Object). length x.symbols ≤ 2 ^ 32) same (omega arith)
 
-pub is_ready : (l : Linker) → AreTables (linkage_with l.process.now l.joining.now l.scope.now).objects l.tables.now → AreNew l.process.now l.joining.now → HasFewSymbols l.process.now → IsReady l
+pub is_ready : (l : Linker) → AreTables (linkage_with l.process.now l.joining.now l.scope.now).objects l.tables.now.slots → AreNew l.process.now l.joining.now → HasFewSymbols l.process.now → IsReady l
 unfolding linkage
 is_ready l tables new few = record {
   tables = tables.each;

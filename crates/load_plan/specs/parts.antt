@@ -4,3 +4,4 @@ pub mod Layout
 pub mod LinkedLoad
 pub mod NoPlaces
 pub mod Tables
+pub mod Targets

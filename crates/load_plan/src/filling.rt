@@ -1,11 +1,12 @@
 //! The slots that functions get, and the finished bytes of new modules.
 
-ghost use Rattle.std.specs.Prelude.{◌≡◌, ◌≤◌, ◌<◌, ◌++◌, ◌∷◌, [], ℕ, length, map, Some, All, IfErr, IfOk, OnOk};
+ghost use Rattle.std.specs.Prelude.{◌≡◌, ◌≤◌, ◌<◌, ◌++◌, ◌∷◌, [], ℕ, Bool, length, map, Some, All, IfErr, IfOk, OnOk};
 ghost use Rattle.std.specs.List.{AllZip, zip, range_with_len};
 ghost use Rattle.symbol_scope.specs.declared.tables.TheConstants.{MAX_MODULES};
 ghost use Rattle.func_desc.specs.Pool.{free_slots};
 ghost use Rattle.load_model.specs.Definition.{Linkage};
 ghost use Rattle.load_model.specs.Image.{IsImage};
+ghost use Rattle.load_model.specs.Joined.{flags_of};
 ghost use Rattle.load_map.specs.Maps.{map_at};
 ghost use Rattle.load_model.specs.declared.module.Joining.{Joining};
 ghost use Rattle.load_sites.specs.parts.Values.{IsValues};
@@ -21,7 +22,9 @@ use elf_model::Func;
 use fd_base::{Bytes, Memory, Seq};
 use func_desc::DescPool;
 use load_image::{Places, image};
-use load_model::{Joining, LoadErr, LoadRefusal, MAX_MODULES, SymbolicProcess};
+use load_model::{
+    Flags, Joining, LoadErr, LoadRefusal, MAX_MODULES, SymbolicProcess, unbound_at_first,
+};
 use load_sites::Values;
 use load_state::{Descriptors, Parts};
 use std::alloc::Global;
@@ -80,24 +83,47 @@ pub fn gots(
     Ok(gots)
 }
 
-/// The finished bytes of new modules, whose sites have these values.
+/// The flags of new modules: with `lazy` the slots that may wait are unbound, and otherwise none.
+pub fn flags(alloc: Global, lazy: bool, joining: &[Joining]) -> Result<Seq<Flags>, Memory>
+    requires { All (λ j. IsTaken j.object) joining.now }
+    ensures { IfOk result (λ flags. flags ≡ flags_of lazy joining.now) }
+{
+    let mut flags = Seq::new(alloc);
+    for new in joining {
+        let own = unbound_at_first(alloc, lazy, &new.object)?;
+        flags.push(own)?;
+    }
+    Ok(flags)
+}
+
+/// The finished bytes of new modules, whose sites have these values, and whose slots these flags.
 pub fn parts(
     alloc: Global,
     places: &Places,
     joining: &[Joining],
+    unbound: &[Flags],
     values: &[Values],
 ) -> Result<Parts, Memory>
     requires taken { All (λ j. IsTaken j.object) joining.now }
     requires numbers { All (λ j. j.number < MAX_MODULES) joining.now }
     requires placed { All (λ j. IsMapOf j.object.segments (map_at places.now.maps j.number)) joining.now }
     requires count { length values.now ≡ length joining.now }
+    requires flags { length unbound.now ≡ length joining.now }
     requires fit { AllZip (λ j v. FitSites j.object v) joining.now values.now }
-    ensures { IfOk result (λ parts. (l : Linkage) → IsValues l joining.now values.now → AllZip (AreImages l (placing_in places.now) (map_at places.now.maps)) joining.now parts) }
+    ensures { IfOk result (λ parts. (l : Linkage) (lazy : Bool) → IsValues l joining.now values.now → unbound.now ≡ flags_of lazy joining.now
+        → AllZip (AreImages l (placing_in places.now) lazy (map_at places.now.maps)) joining.now parts) }
 {
     let mut parts = Seq::new(alloc);
     for i in 0..joining.len() {
         let new = &joining[i];
-        let part = image(alloc, places, new.number, &new.object, values[i].as_slice())?;
+        let part = image(
+            alloc,
+            places,
+            new.number,
+            &new.object,
+            unbound[i].as_slice(),
+            values[i].as_slice(),
+        )?;
         parts.push(part)?;
     }
     Ok(parts)

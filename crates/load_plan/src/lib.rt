@@ -9,6 +9,7 @@ mod maps;
 mod placing;
 mod planning;
 mod tables;
+mod targets;
 
 pub use layout::Standing;
 pub use planning::{Request, plan_group};

@@ -1,6 +1,6 @@
 //! What is linked in a load.
 
-ghost use Rattle.std.specs.Prelude.{◌≡◌, ◌≤◌, ℕ, List, length, slice_get, Some, None, All, IfOk, IfErr};
+ghost use Rattle.std.specs.Prelude.{◌≡◌, ◌<◌, ◌≤◌, ℕ, List, length, slice_get, Some, None, All, IfOk, IfErr};
 ghost use Rattle.elf_model.specs.Sound.{IsSound};
 ghost use Rattle.symbol_scope.specs.declared.tables.TheConstants.{MAX_MODULES};
 ghost use Rattle.load_model.specs.Explains.{Explains};
@@ -9,7 +9,7 @@ ghost use Rattle.load_model.specs.Walk.{IsWalk, IsWalkRefused, number_among};
 ghost use Rattle.load_model.specs.Descriptors as spec;
 ghost use Rattle.load_model.specs.Sites.{first_refusal};
 ghost use Rattle.std.specs.FinMap.{get};
-ghost use Rattle.load_plan.specs.parts.Tables.{AreTables, HasTables};
+ghost use Rattle.load_plan.specs.parts.Tables.{AreTables, HasTable, HasTables};
 ghost use Rattle.load_sites.specs.parts.Linker.{IsReady, linkage};
 ghost use Rattle.load_sites.specs.parts.Answers.{Tells};
 ghost use Rattle.load_sites.specs.parts.Values.{IsValues};
@@ -78,14 +78,17 @@ fn enter<S: Store>(
     root: &Name,
 ) -> Result<Walk, LoadErr>
     requires sizes { length process.now.modules ≡ MAX_MODULES }
-    requires tables { HasTables process.now tables.old }
+    requires tables { HasTables process.now tables.old.slots }
     ensures walk { IfOk result (λ w. (names : List (List ℕ)) × IsWalk process.now (S.files store.old) root.now w.joining names
         × (w.members ≡ closure_of process.now w.joining names)) }
     ensures root { IfOk result (λ w. slice_get w.members 0 ≡ number_among process.now w.joining root.now) }
     ensures some { IfOk result (λ w. 1 ≤ length w.members) }
     ensures new { IfOk result (λ w. AreNew process.now w.joining) }
-    ensures entered { IfOk result (λ w. (scope : List ℕ) → AreTables (linkage_with process.now w.joining scope).objects tables.new) }
-    ensures tables { HasTables process.now tables.new }
+    ensures entered { IfOk result (λ w. (scope : List ℕ) → AreTables (linkage_with process.now w.joining scope).objects tables.new.slots) }
+    ensures each { IfOk result (λ w. All (HasTable tables.new.slots) w.joining) }
+    ensures room { IfOk result (λ w. All (λ j. j.number < tables.new.room) w.joining) }
+    ensures tables { HasTables process.now tables.new.slots }
+    ensures grows { tables.old.room ≤ tables.new.room }
     ensures error { IfErr result (Explains (IsWalkRefused process.now (S.files store.old) root.now) (S.faults store.old) (S.faults store.new)) }
     ensures files { S.files store.new ≡ S.files store.old }
     ensures count { S.faults store.old ≤ S.faults store.new }
@@ -97,7 +100,8 @@ fn enter<S: Store>(
 }
 
 /// Links the module of this name and all that it needs to the modules of a process. Each new module has a number, a
-/// scope, and a value for each site; nothing is placed. The process stays, and its modules keep their tables.
+/// scope, and a value for each site; nothing is placed. The process stays, its modules keep their tables, and each new one
+/// has its own.
 pub fn link<S: Store>(
     alloc: Global,
     process: &SymbolicProcess,
@@ -107,10 +111,13 @@ pub fn link<S: Store>(
     root: &Name,
 ) -> Result<Linked, LoadErr>
     requires sizes { length process.now.modules ≡ MAX_MODULES }
-    requires tables { HasTables process.now tables.old }
+    requires tables { HasTables process.now tables.old.slots }
     requires few { HasFewSymbols process.now }
     ensures linked { IfOk result (IsLinked process.now pool.now.addrs (S.files store.old) root.now) }
-    ensures tables { HasTables process.now tables.new }
+    ensures each { IfOk result (λ l. All (HasTable tables.new.slots) l.joining) }
+    ensures room { IfOk result (λ l. All (λ j. j.number < tables.new.room) l.joining) }
+    ensures tables { HasTables process.now tables.new.slots }
+    ensures grows { tables.old.room ≤ tables.new.room }
     ensures error { IfErr result (Explains (IsUnlinked process.now (S.files store.old) root.now) (S.faults store.old) (S.faults store.new)) }
     ensures files { S.files store.new ≡ S.files store.old }
     ensures count { S.faults store.old ≤ S.faults store.new }

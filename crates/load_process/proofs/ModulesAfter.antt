@@ -1,5 +1,5 @@
 -- Live modules and groups after new modules were put into their places.
-use Rattle.std.proofs.Common.{◌≡◌, ◌≢◌, ℕ, suc, ◌<◌, ◌⊎◌, inl, inr, true, false, cond, Option, Some, None, List, [], ◌∷◌, length, get_or, set, refl, sym, ap, ◌∙◌, subst, arith, All, length-set}
+use Rattle.std.proofs.Common.{◌≡◌, ◌≢◌, ℕ, suc, ◌<◌, ◌⊎◌, inl, inr, Bool, true, false, cond, Option, Some, None, List, [], ◌∷◌, length, get_or, set, refl, sym, ap, ◌∙◌, subst, arith, All, length-set}
 use Rattle.std.specs.Prelude.{◌==◌, option_map, option_and_then, Contains, AllPairs}
 use Rattle.std.specs.Option.{option_or, option_map_or}
 use Rattle.std.proofs.lemmas.Bool.{false≢true, cases_eq}
@@ -18,8 +18,8 @@ use Rattle.fd_base.proofs.Finding.{find_none}
 use Rattle.load_process.proofs.NumberedPlaces.{at_place, at_place-set_same, at_place-set_other}
 use Rattle.load_process.proofs.WalkFacts.{Facts, at_number}
 
-abbrev new_or : ℕ → Option Joining → Option Live → Option Live
-new_or group new old = option_or (option_map (live_from group) new) old
+abbrev new_or : Bool → ℕ → Option Joining → Option Live → Option Live
+new_or lazy group new old = option_or (option_map (live_from lazy group) new) old
 
 unequal : (a b : ℕ) → a ≢ b → (a == b) ≡ false
 unequal a b apart = grind (arith, nat_tests)
@@ -29,40 +29,40 @@ others j joining m is apart =
     find_none (λ k. k.number == m) joining (λ k d lt. unequal (get_or joining k d).number m (λ e. apart 0 (suc k) d (omega arith) (omega arith) (is ∙ sym e)))
 
 -- the new module of a number stands there, or what stood there
-pub placed_after : (modules : List (Option Live)) (group : ℕ) (joining : List Joining) (m : ℕ) → AllPairs (λ j k. j.number ≢ k.number) joining → All (λ j. j.number < length modules) joining
-    → at_place (modules_after modules group joining) m ≡ new_or group (joining_at joining m) (at_place modules m)
-placed_after modules group [] m apart within = refl
-placed_after modules group (j ∷ joining) m apart within =
-    let new : Option Live = Some (live_from group j) in
+pub placed_after : (modules : List (Option Live)) (lazy : Bool) (group : ℕ) (joining : List Joining) (m : ℕ) → AllPairs (λ j k. j.number ≢ k.number) joining → All (λ j. j.number < length modules) joining
+    → at_place (modules_after modules lazy group joining) m ≡ new_or lazy group (joining_at joining m) (at_place modules m)
+placed_after modules lazy group [] m apart within = refl
+placed_after modules lazy group (j ∷ joining) m apart within =
+    let new : Option Live = Some (live_from lazy group j) in
     let after : List (Option Live) = set modules j.number new in
     let len : length modules ≡ length after = sym (length-set modules j.number new) in
     let rest : All (λ k. k.number < length after) joining = subst (λ n. All (λ k. k.number < n) joining) len (All-tail (λ k. k.number < length modules) j joining within) in
-    let step = placed_after after group joining m (λ a b d lt in'. apart (suc a) (suc b) d (omega arith) (omega arith)) rest in
+    let step = placed_after after lazy group joining m (λ a b d lt in'. apart (suc a) (suc b) d (omega arith) (omega arith)) rest in
     step
-    ∙ elim (j.number == m) as (λ b. (j.number == m) ≡ b → new_or group (joining_at joining m) (at_place after m) ≡ new_or group (cond b (Some j) (joining_at joining m)) (at_place modules m)) [
+    ∙ elim (j.number == m) as (λ b. (j.number == m) ≡ b → new_or lazy group (joining_at joining m) (at_place after m) ≡ new_or lazy group (cond b (Some j) (joining_at joining m)) (at_place modules m)) [
       | true ↦ λ e.
           let is : j.number ≡ m = (Decides-eqb j.number m).0 e in
-          ap (λ o. new_or group o (at_place after m)) (others j joining m is apart)
+          ap (λ o. new_or lazy group o (at_place after m)) (others j joining m is apart)
           ∙ ap (λ n. at_place after n) (sym is) ∙ at_place-set_same modules j.number new (All-head (λ k. k.number < length modules) j joining within)
-      | false ↦ λ e. ap (new_or group (joining_at joining m)) (at_place-set_other modules j.number m new (λ is. false≢true (sym e ∙ (Decides-eqb j.number m).1 (sym is))))
+      | false ↦ λ e. ap (new_or lazy group (joining_at joining m)) (at_place-set_other modules j.number m new (λ is. false≢true (sym e ∙ (Decides-eqb j.number m).1 (sym is))))
     ] refl
 
 -- where a process has new modules with free numbers, as one group
-module _ (p : SymbolicProcess) (joining : List Joining) (names : List (List ℕ)) (facts : Facts p joining names) (valid : IsValid p) (scope global : List ℕ) where
+module _ (p : SymbolicProcess) (joining : List Joining) (names : List (List ℕ)) (facts : Facts p joining names) (valid : IsValid p) (lazy : Bool) (scope global : List ℕ) where
   abbrev q : SymbolicProcess
-  q = process_after p joining scope global
+  q = process_after p lazy joining scope global
 
   within : All (λ j. j.number < length p.modules) joining
   within = subst (λ n. All (λ j. j.number < n) joining) (sym valid.modules') facts.small
 
-  live_after : (m : ℕ) → live_at q m ≡ new_or (group_of joining) (joining_at joining m) (live_at p m)
-  live_after m = placed_after p.modules (group_of joining) joining m facts.apart within
+  live_after : (m : ℕ) → live_at q m ≡ new_or lazy (group_of joining) (joining_at joining m) (live_at p m)
+  live_after m = placed_after p.modules lazy (group_of joining) joining m facts.apart within
 
-  pub new_after : (m : ℕ) (j : Joining) → joining_at joining m ≡ Some j → live_at q m ≡ Some (live_from (group_of joining) j)
-  new_after m j e = live_after m ∙ ap (λ o. new_or (group_of joining) o (live_at p m)) e
+  pub new_after : (m : ℕ) (j : Joining) → joining_at joining m ≡ Some j → live_at q m ≡ Some (live_from lazy (group_of joining) j)
+  new_after m j e = live_after m ∙ ap (λ o. new_or lazy (group_of joining) o (live_at p m)) e
 
   pub old_after : (m : ℕ) → joining_at joining m ≡ None → live_at q m ≡ live_at p m
-  old_after m e = live_after m ∙ ap (λ o. new_or (group_of joining) o (live_at p m)) e
+  old_after m e = live_after m ∙ ap (λ o. new_or lazy (group_of joining) o (live_at p m)) e
 
   -- no new module has a live one's number
   pub not_new : (m : ℕ) (live : Live) → live_at p m ≡ Some live → joining_at joining m ≡ None
@@ -78,8 +78,8 @@ module _ (p : SymbolicProcess) (joining : List Joining) (names : List (List ℕ)
   stays_after m live e = old_after m (not_new m live e) ∙ e
 
   -- what is live was new or live
-  pub came_from : (m : ℕ) (live : Live) → live_at q m ≡ Some live → ((j : Joining) × (joining_at joining m ≡ Some j) × (live ≡ live_from (group_of joining) j)) ⊎ (live_at p m ≡ Some live)
-  came_from m live e = elim (joining_at joining m) as (λ o. joining_at joining m ≡ o → ((j : Joining) × (joining_at joining m ≡ Some j) × (live ≡ live_from (group_of joining) j)) ⊎ (live_at p m ≡ Some live)) [
+  pub came_from : (m : ℕ) (live : Live) → live_at q m ≡ Some live → ((j : Joining) × (joining_at joining m ≡ Some j) × (live ≡ live_from lazy (group_of joining) j)) ⊎ (live_at p m ≡ Some live)
+  came_from m live e = elim (joining_at joining m) as (λ o. joining_at joining m ≡ o → ((j : Joining) × (joining_at joining m ≡ Some j) × (live ≡ live_from lazy (group_of joining) j)) ⊎ (live_at p m ≡ Some live)) [
     | None ↦ λ f. inr (sym (old_after m f) ∙ e)
     | Some j ↦ λ f. let is = new_after m j f in inl (j, f, cc)
   ] refl

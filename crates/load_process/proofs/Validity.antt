@@ -17,8 +17,9 @@ use Rattle.load_model.specs.declared.module.Group.{Group}
 use Rattle.load_model.specs.declared.module.Joining.{Joining}
 use Rattle.load_model.specs.declared.module.Live.{Live}
 use Rattle.load_model.specs.declared.module.SymbolicProcess.{SymbolicProcess}
-use Rattle.load_model.specs.Joined.{is_empty, live_from, modules_after, group_of, groups_after, global_after}
+use Rattle.load_model.specs.Joined.{Asked, is_empty, live_from, modules_after, group_of, groups_after, global_after}
 use Rattle.load_model.specs.Linkage.{joining_at, closure_of}
+use Rattle.load_model.proofs.FirstFlags.{flags_count, set_has_call}
 use Rattle.load_model.specs.Process.{live_at, is_live, is_live_named, number_of, group_at, group_scope, object_at}
 use Rattle.load_model.specs.Validity.{IsMember, IsGroup, IsValid}
 use Rattle.load_model.specs.Walk.{joining_named, number_among, needed_by}
@@ -91,21 +92,21 @@ in_scope_old seen more n c = contained_has nat_eq Decides-eqb (with_new nat_eq s
 pub in_scope_new : (seen more : List ℕ) (n : ℕ) → Contains more n → Contains (with_new nat_eq seen more) n
 in_scope_new seen more n c = contained_has nat_eq Decides-eqb (with_new nat_eq seen more) n (gained nat_eq Decides-eqb seen more n (has_contained nat_eq Decides-eqb more n c))
 
-module _ (p : SymbolicProcess) (joining : List Joining) (names : List (List ℕ)) (facts : Facts p joining names) (valid : IsValid p) (asked : Bool) where
+module _ (p : SymbolicProcess) (joining : List Joining) (names : List (List ℕ)) (facts : Facts p joining names) (valid : IsValid p) (asked : Asked) where
   abbrev scope : List ℕ
   scope = scope_after p joining names
 
   abbrev global : List ℕ
-  global = global_after p asked scope
+  global = global_after p asked.global scope
 
   abbrev q : SymbolicProcess
   q = loaded p joining names asked
 
-  abbrev came : (m : ℕ) (live : Live) → live_at q m ≡ Some live → ((j : Joining) × (joining_at joining m ≡ Some j) × (live ≡ live_from (group_of joining) j)) ⊎ (live_at p m ≡ Some live)
-  came = came_from p joining names facts valid scope global
+  abbrev came : (m : ℕ) (live : Live) → live_at q m ≡ Some live → ((j : Joining) × (joining_at joining m ≡ Some j) × (live ≡ live_from asked.lazy (group_of joining) j)) ⊎ (live_at p m ≡ Some live)
+  came = came_from p joining names facts valid asked.lazy scope global
 
   -- a new module has no live one's name
-  new_name : (m n : ℕ) (j : Joining) (a b : Live) → joining_at joining m ≡ Some j → a ≡ live_from (group_of joining) j → live_at p n ≡ Some b → a.name ≡ b.name → ⊥
+  new_name : (m n : ℕ) (j : Joining) (a b : Live) → joining_at joining m ≡ Some j → a ≡ live_from asked.lazy (group_of joining) j → live_at p n ≡ Some b → a.name ≡ b.name → ⊥
   new_name m n j a b e is f same =
       let name : b.name ≡ j.name = sym same ∙ ap (λ l. l.name) is in
       let old : number_of p j.name ≡ Some n = named_number p j.name n b valid.names f name in
@@ -129,15 +130,15 @@ module _ (p : SymbolicProcess) (joining : List Joining) (names : List (List ℕ)
   ]
 
   -- a new module is live, by its number
-  pub new_live : (j : Joining) → Contains joining j → live_at q j.number ≡ Some (live_from (group_of joining) j)
-  new_live j c = new_after p joining names facts valid scope global j.number j (number_found joining j facts.apart c)
+  pub new_live : (j : Joining) → Contains joining j → live_at q j.number ≡ Some (live_from asked.lazy (group_of joining) j)
+  new_live j c = new_after p joining names facts valid asked.lazy scope global j.number j (number_found joining j facts.apart c)
 
   among_new : (name : List ℕ) (n : ℕ) (o : Option Joining) → joining_named joining name ≡ o → option_map (λ j. j.number) o ≡ Some n → (live : Live) × (live_at q n ≡ Some live) × (live.name ≡ name)
   among_new name n None e f = cc
   among_new name n (Some j) e f =
       let at = find_some (λ j. bytes_eq j.name name) joining j e in
       let same : j.number ≡ n = cc in
-      (live_from (group_of joining) j, ap (live_at q) (sym same) ∙ new_live j at.0, (bytes_eq-Decides j.name name).0 at.1)
+      (live_from asked.lazy (group_of joining) j, ap (live_at q) (sym same) ∙ new_live j at.0, (bytes_eq-Decides j.name name).0 at.1)
 
   -- the name of a live or new module leads to its number
   pub among_after : (name : List ℕ) (n : ℕ) → number_among p joining name ≡ Some n → (live : Live) × (live_at q n ≡ Some live) × (live.name ≡ name)
@@ -146,7 +147,7 @@ module _ (p : SymbolicProcess) (joining : List Joining) (names : List (List ℕ)
     | Some m ↦ λ f g.
         let same : m ≡ n = cc in
         let is = number_named p name m f in
-        (is.0, ap (live_at q) (sym same) ∙ stays_after p joining names facts valid scope global m is.0 is.1, is.2)
+        (is.0, ap (live_at q) (sym same) ∙ stays_after p joining names facts valid asked.lazy scope global m is.0 is.1, is.2)
   ] refl e
 
   among_all : (name : List ℕ) → Contains names name → (n : ℕ) × (number_among p joining name ≡ Some n)
@@ -165,7 +166,7 @@ module _ (p : SymbolicProcess) (joining : List Joining) (names : List (List ℕ)
       (among.0, named_number q name among.0 is.0 names_once is.1 is.2, in_scope_new p.global (closure_of p joining names) among.0 (filter_map_in (number_among p joining) names name among.0 c among.1))
 
   still_live : (n : ℕ) → is_live p n ≡ true → is_live q n ≡ true
-  still_live n e = let live = some_of (live_at p n) e in ap is_some (stays_after p joining names facts valid scope global n live.0 live.1)
+  still_live n e = let live = some_of (live_at p n) e in ap is_some (stays_after p joining names facts valid asked.lazy scope global n live.0 live.1)
 
   closure_live : All (λ n. is_live q n ≡ true) (closure_of p joining names)
   closure_live = all_contained (λ n. is_live q n ≡ true) (closure_of p joining names)
@@ -178,13 +179,13 @@ module _ (p : SymbolicProcess) (joining : List Joining) (names : List (List ℕ)
   scope_live = All-with_new nat_eq (λ n. is_live q n ≡ true) p.global (closure_of p joining names) (old_live p.global valid.global') closure_live
 
   global_live : All (λ n. is_live q n ≡ true) global
-  global_live = elim (asked || is_empty p) as (λ b. All (λ n. is_live q n ≡ true) (if b then scope else p.global)) [
+  global_live = elim (asked.global || is_empty p) as (λ b. All (λ n. is_live q n ≡ true) (if b then scope else p.global)) [
     | true ↦ scope_live
     | false ↦ old_live p.global valid.global'
   ]
 
   global_once : AllPairs (λ m n. m ≢ n) global
-  global_once = elim (asked || is_empty p) as (λ b. AllPairs (λ m n. m ≢ n) (if b then scope else p.global)) [
+  global_once = elim (asked.global || is_empty p) as (λ b. AllPairs (λ m n. m ≢ n) (if b then scope else p.global)) [
     | true ↦ once_more nat_eq Decides-eqb p.global (closure_of p joining names) valid.once
     | false ↦ valid.once
   ]
@@ -197,27 +198,31 @@ module _ (p : SymbolicProcess) (joining : List Joining) (names : List (List ℕ)
       ap (λ o. option_map_or (λ x. x.needed) (option_or (option_and_then (object_at p) o) (option_map (λ k. k.object) (joining_named joining j.name))) []) none
       ∙ ap (λ o. option_map_or (λ x. x.needed) (option_map (λ k. k.object) o) []) (name_found joining j facts.distinct c)
 
-  member_new : (m : ℕ) (j : Joining) → joining_at joining m ≡ Some j → IsMember q m (live_from (group_of joining) j)
+  member_new : (m : ℕ) (j : Joining) → joining_at joining m ≡ Some j → IsMember q m (live_from asked.lazy (group_of joining) j)
   member_new m j e =
       let at = at_number p joining m j e in
       record {
-        grouped = λ none. let some = group_new p joining names facts valid scope global m j e in cc;
+        grouped = λ none. let some = group_new p joining names facts valid asked.lazy scope global m j e in cc;
         needs = all_contained (λ name. IsSomeAnd (number_of q name) (λ n. Contains (group_scope q m) n)) j.object.needed (λ name c.
             let named = All-contains (λ j. Contains names j.name) joining j facts.named at.0 in
             let is = name_after name (facts.closed j.name name named (subst (λ l. Contains l name) (sym (needed_new j at.0)) c)) in
-            some_and (λ n. Contains (group_scope q m) n) (number_of q name) is.0 is.1 (subst (λ l. Contains l is.0) (sym (scope_new p joining names facts valid scope global m j e)) is.2));
+            some_and (λ n. Contains (group_scope q m) n) (number_of q name) is.0 is.1 (subst (λ l. Contains l is.0) (sym (scope_new p joining names facts valid asked.lazy scope global m j e)) is.2));
+        flags = flags_count asked.lazy j.object;
+        calls = set_has_call asked.lazy j.object;
       }
 
   member_old : (m : ℕ) (live : Live) → live_at p m ≡ Some live → IsMember q m live
   member_old m live e =
       let member = valid.members m live e in
       record {
-        grouped = λ none. member.grouped (sym (group_left p joining names facts valid scope global m live e) ∙ none);
+        grouped = λ none. member.grouped (sym (group_left p joining names facts valid asked.lazy scope global m live e) ∙ none);
         needs = all_contained (λ name. IsSomeAnd (number_of q name) (λ n. Contains (group_scope q m) n)) live.object.needed (λ name c.
             let had = of_some_and (λ n. Contains (group_scope p m) n) (number_of p name) (All-contains (λ name. IsSomeAnd (number_of p name) (λ n. Contains (group_scope p m) n)) live.object.needed name member.needs c) in
             let is = number_named p name had.0 had.1 in
-            let number = named_number q name had.0 is.0 names_once (stays_after p joining names facts valid scope global had.0 is.0 is.1) is.2 in
-            some_and (λ n. Contains (group_scope q m) n) (number_of q name) had.0 number (subst (λ l. Contains l had.0) (sym (scope_old p joining names facts valid scope global m live e)) had.2));
+            let number = named_number q name had.0 is.0 names_once (stays_after p joining names facts valid asked.lazy scope global had.0 is.0 is.1) is.2 in
+            some_and (λ n. Contains (group_scope q m) n) (number_of q name) had.0 number (subst (λ l. Contains l had.0) (sym (scope_old p joining names facts valid asked.lazy scope global m live e)) had.2));
+        flags = member.flags;
+        calls = member.calls;
       }
 
   member_after : (m : ℕ) (live : Live) → live_at q m ≡ Some live → IsMember q m live
@@ -227,23 +232,24 @@ module _ (p : SymbolicProcess) (joining : List Joining) (names : List (List ℕ)
   ]
 
   group_after : (g : ℕ) (group : Group) → group_at q g ≡ Some group → IsGroup q g group
-  group_after g group e = elim (group_came_from p joining names facts valid scope global g group e) [
+  group_after g group e = elim (group_came_from p joining names facts valid asked.lazy scope global g group e) [
     | inl x ↦ record {
-      founder = some_and (λ live. live.group ≡ g) (live_at q g) (live_from (group_of joining) x.0) (ap (live_at q) (x.3 ∙ x.2) ∙ new_live x.0 x.1) (sym x.3);
+      founder = some_and (λ live. live.group ≡ g) (live_at q g) (live_from asked.lazy (group_of joining) x.0) (ap (live_at q) (x.3 ∙ x.2) ∙ new_live x.0 x.1) (sym x.3);
       scope' = subst (λ l. All (λ n. is_live q n ≡ true) l.scope) (sym x.4) scope_live;
     }
     | inr x ↦
         let old = valid.scopes g group x in
         let live = of_some_and (λ live. live.group ≡ g) (live_at p g) old.founder in
         record {
-          founder = some_and (λ live. live.group ≡ g) (live_at q g) live.0 (stays_after p joining names facts valid scope global g live.0 live.1) live.2;
+          founder = some_and (λ live. live.group ≡ g) (live_at q g) live.0 (stays_after p joining names facts valid asked.lazy scope global g live.0 live.1) live.2;
           scope' = old_live group.scope old.scope';
         }
   ]
 
-  length-modules_after : (modules : List (Option Live)) (group : ℕ) (js : List Joining) → length (modules_after modules group js) ≡ length modules
-  length-modules_after modules group [] = refl
-  length-modules_after modules group (j ∷ js) = length-modules_after (set modules j.number (Some (live_from group j))) group js ∙ length-set modules j.number (Some (live_from group j))
+  length-modules_after : (modules : List (Option Live)) (lazy : Bool) (group : ℕ) (js : List Joining) → length (modules_after modules lazy group js) ≡ length modules
+  length-modules_after modules lazy group [] = refl
+  length-modules_after modules lazy group (j ∷ js) =
+      length-modules_after (set modules j.number (Some (live_from lazy group j))) lazy group js ∙ length-set modules j.number (Some (live_from lazy group j))
 
   length-groups_after : (groups : List (Option Group)) (js : List Joining) → length (groups_after groups js scope) ≡ length groups
   length-groups_after groups [] = refl
@@ -251,7 +257,7 @@ module _ (p : SymbolicProcess) (joining : List Joining) (names : List (List ℕ)
 
   pub valid_after : IsValid q
   valid_after = record {
-    modules' = length-modules_after p.modules (group_of joining) joining ∙ valid.modules';
+    modules' = length-modules_after p.modules asked.lazy (group_of joining) joining ∙ valid.modules';
     groups' = length-groups_after p.groups joining ∙ valid.groups';
     names = names_once;
     members = member_after;
@@ -301,4 +307,4 @@ with_all seen (x ∷ xs) once =
 pub first_scope : (p : SymbolicProcess) (joining : List Joining) (names : List (List ℕ)) → Facts p joining names → IsValid p → is_empty p ≡ true → scope_after p joining names ≡ closure_of p joining names
 first_scope p joining names facts valid empty =
     ap (λ l. with_new nat_eq l (closure_of p joining names)) (none_live p p.global empty valid.global')
-    ∙ with_all [] (closure_of p joining names) (closure_once p joining names facts valid false)
+    ∙ with_all [] (closure_of p joining names) (closure_once p joining names facts valid (record { global = false; lazy = false }))

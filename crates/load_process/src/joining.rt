@@ -1,12 +1,13 @@
 //! Processes before the first load and after each.
 
-ghost use Rattle.std.specs.Prelude.{◌≡◌, ◌<◌, ℕ, true, [], length, replicate, set, Some, None, All, IfOk};
+ghost use Rattle.std.specs.Prelude.{◌≡◌, ◌<◌, ℕ, Bool, true, [], length, replicate, set, Some, None, All, IfOk};
 ghost use Rattle.symbol_scope.specs.declared.tables.TheConstants.{MAX_MODULES};
-ghost use Rattle.load_model.specs.Joined.{is_empty, live_from, modules_after, group_of, groups_after, process_after};
+ghost use Rattle.load_model.specs.Joined.{flags_of, is_empty, live_from, modules_after, group_of, groups_after, process_after};
+ghost use Rattle.load_model.specs.Unbound.{unbound_at_first};
 ghost use Rattle.load_model.specs.Validity.{IsValid};
 
 use fd_base::{Memory, Numbers, Seq};
-use load_model::{Group, Groups, Joining, Live, MAX_MODULES, Modules, SymbolicProcess};
+use load_model::{Flags, Group, Groups, Joining, Live, MAX_MODULES, Modules, SymbolicProcess};
 use std::alloc::Global;
 use std::mem;
 
@@ -43,10 +44,12 @@ fn group_of(joining: &[Joining]) -> u32
     }
 }
 
-/// Puts a new module of a group into its place.
-fn put_module(modules: &mut Vec<Option<Live>>, group: u32, new: Joining)
+/// Puts a new module of a group into its place, with the flags of its slots.
+fn put_module(modules: &mut Vec<Option<Live>>, group: u32, new: Joining, unbound: Flags)
     requires { new.number < length modules.old.items }
-    ensures { modules.new.items ≡ set modules.old.items new.number (Some (live_from group new)) }
+    ensures count { length modules.new.items ≡ length modules.old.items }
+    ensures put { (lazy : Bool) → unbound ≡ unbound_at_first lazy new.object
+        → modules.new.items ≡ set modules.old.items new.number (Some (live_from lazy group new)) }
 {
     let Joining {
         number,
@@ -58,16 +61,28 @@ fn put_module(modules: &mut Vec<Option<Live>>, group: u32, new: Joining)
         object,
         group,
         opens: 0,
+        unbound,
     });
 }
 
-/// Puts new modules of a group into their places, in order.
-fn put_modules(modules: &mut Vec<Option<Live>>, group: u32, joining: Vec<Joining>)
-    requires { All (λ j. j.number < length modules.old.items) joining.items }
-    ensures { modules.new.items ≡ modules_after modules.old.items group joining.items }
+/// Puts new modules of a group into their places, in order, each with the flags of its slots.
+fn put_modules(
+    modules: &mut Vec<Option<Live>>,
+    group: u32,
+    joining: Vec<Joining>,
+    unbound: Vec<Flags>,
+)
+    requires numbers { All (λ j. j.number < length modules.old.items) joining.items }
+    requires flags { length unbound.items ≡ length joining.items }
+    ensures { (lazy : Bool) → unbound.items ≡ flags_of lazy joining.items
+        → modules.new.items ≡ modules_after modules.old.items lazy group joining.items }
 {
+    let mut flags = unbound.into_iter();
     for new in joining {
-        put_module(modules, group, new);
+        let Some(own) = flags.next() else {
+            unreachable!();
+        };
+        put_module(modules, group, new, own);
     }
 }
 
@@ -81,13 +96,21 @@ fn put_group(groups: &mut Vec<Option<Group>>, joining: &[Joining], scope: Number
     }
 }
 
-/// Puts new modules into the places of their numbers as one group of this scope, and sets the global list. Where a
-/// place has a module already, that one is dropped. Takes no memory.
-pub fn join(process: &mut SymbolicProcess, joining: Seq<Joining>, scope: Numbers, global: Numbers)
+/// Puts new modules with the flags of their slots into the places of their numbers, as one group of this scope, and sets
+/// the global list. Where a place has a module already, that one is dropped. Takes no memory.
+pub fn join(
+    process: &mut SymbolicProcess,
+    joining: Seq<Joining>,
+    unbound: Seq<Flags>,
+    scope: Numbers,
+    global: Numbers,
+)
     requires modules { length process.old.modules ≡ MAX_MODULES }
     requires groups { length process.old.groups ≡ MAX_MODULES }
     requires numbers { All (λ j. j.number < MAX_MODULES) joining }
-    ensures { process.new ≡ process_after process.old joining scope global }
+    requires flags { length unbound ≡ length joining }
+    ensures { (lazy : Bool) → unbound ≡ flags_of lazy joining
+        → process.new ≡ process_after process.old lazy joining scope global }
 {
     let joining = joining.into_vec();
     let alloc = *joining.allocator();
@@ -96,7 +119,7 @@ pub fn join(process: &mut SymbolicProcess, joining: Seq<Joining>, scope: Numbers
     put_group(&mut groups, &joining, scope);
     process.groups = Seq::from_vec(groups);
     let mut modules = mem::replace(&mut process.modules, Seq::new(alloc)).into_vec();
-    put_modules(&mut modules, group, joining);
+    put_modules(&mut modules, group, joining, unbound.into_vec());
     process.modules = Seq::from_vec(modules);
     process.global = global;
 }

@@ -1,7 +1,10 @@
 pub mod DescriptorValues
+pub mod GivenValues
 pub mod LookUps
 pub mod LookUpsAgree
+pub mod NearNames
 pub mod SameFunctions
+pub mod ScopeModules
 pub mod SiteEnds
 pub mod SiteValues
 pub mod SlotsLead

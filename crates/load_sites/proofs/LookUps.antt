@@ -8,7 +8,7 @@ use Rattle.fd_base.proofs.Options.{then-map}
 use Rattle.elf_model.specs.declared.object.Object.{Object}
 use Rattle.symbol_scope.specs.declared.tables.Found.{Found}
 use Rattle.symbol_scope.specs.Definition.{first_definition}
-use Rattle.symbol_scope.specs.parts.Exports.{exports_of}
+use Rattle.symbol_scope.specs.Exports.{exports_of}
 use Rattle.symbol_scope.specs.parts.Laws.{ExportsAreFirst}
 use Rattle.symbol_scope.specs.parts.Needs.{table_at, export_in}
 use Rattle.symbol_scope.specs.parts.Slots.{Slots}

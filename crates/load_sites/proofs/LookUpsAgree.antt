@@ -1,11 +1,11 @@
 -- What a symbol or a site means depends on the modules in its module's scope alone.
-use Rattle.std.proofs.Common.{◌≡◌, ℕ, ◌%◌, ◌&&◌, Bool, true, false, not, cond, Option, Some, None, Ok, Err, List, [], ◌∷◌, refl, sym, ap, subst, ◌∙◌, All}
+use Rattle.std.proofs.Common.{◌≡◌, ℕ, ◌%◌, ◌&&◌, false, not, cond, Option, Some, None, Ok, Err, List, [], ◌∷◌, refl, sym, ap, ◌∙◌, All}
 use mathlib.Core.Path.{fun_ext}
 use Rattle.std.specs.Prelude.{filter, find, is_some, option_map, option_and_then, ◌==◌, if◌then◌else◌}
 use Rattle.std.specs.Option.{option_map_or}
 use Rattle.std.specs.List.{filter_map}
 use Rattle.std.specs.Result.{result_err}
-use Rattle.std.proofs.lemmas.List.Elements.{All-cons, All-head, All-tail, All-filter}
+use Rattle.std.proofs.lemmas.List.Elements.{All-head, All-tail}
 use Rattle.elf_model.specs.declared.constants.TheConstants.{STB_WEAK, R_ARM_FUNCDESC, R_ARM_FUNCDESC_VALUE, R_ARM_RELATIVE}
 use Rattle.elf_model.specs.declared.func.Func.{Func}
 use Rattle.elf_model.specs.declared.object.Object.{Object}
@@ -22,9 +22,10 @@ use Rattle.load_model.specs.declared.meaning.SiteValue.TheVariants.{Place as Pla
 use Rattle.load_model.specs.declared.meaning.Value.{Value}
 use Rattle.load_model.specs.declared.meaning.Value.TheVariants.{Address, Number}
 use Rattle.load_model.specs.Definition.{Linkage, is_own, symbol_at, name_at, scope_of, export_of, lookup, definition_or, definition_of}
-use Rattle.load_model.specs.Sites.{is_absolute, symbol_value, value_of, has_place, is_placed, is_code, own_address, is_unnamed, addend_of, placed_value, value_for, value_at, coded_value, function_for, function_at, relative_at, written, site_value}
+use Rattle.load_model.specs.Sites.{symbol_value, value_of, has_place, is_placed, is_code, own_address, is_unnamed, addend_of, placed_value, value_for, value_at, coded_value, function_for, function_at, relative_at, written, site_value}
 use Rattle.elf_model.specs.Filled.{site_relocations}
 use Rattle.load_sites.specs.parts.Laws.{OwnSymbolsStayHome, AgreeFor, LookUpsAgree}
+use Rattle.load_sites.proofs.ScopeModules.{answer, FoundIn, ValueIn, in_scope, definition_in, value_in}
 
 -- ---- own symbols
 
@@ -34,9 +35,6 @@ stays_home l m o s symbol at own =
     ∙ ap (λ b. cond b (Is (record { «module» = m; symbol = s })) (definition_or (lookup l m o symbol.name) (symbol.binding == STB_WEAK))) own
 
 -- ---- first definitions
-
-abbrev answer : (ℕ → Option ℕ) → Option ℕ → Option Found
-answer f place = option_and_then (λ m. option_map (λ symbol. record { «module» = m; symbol = symbol }) (f m)) place
 
 module _ (f g : ℕ → Option ℕ) where
   one_first : (n : ℕ) (ns : List ℕ) (x : Option ℕ) → g n ≡ x → f n ≡ x → first_definition f ns ≡ first_definition g ns → first_definition f (n ∷ ns) ≡ first_definition g (n ∷ ns)
@@ -51,23 +49,6 @@ module _ (f g : ℕ → Option ℕ) where
   same_first [] all = refl
   same_first (n ∷ ns) all = one_first n ns (g n) refl (All-head (λ k. f k ≡ g k) n ns all) (same_first ns (All-tail (λ k. f k ≡ g k) n ns all))
 
--- the module of what is found is one of those that are looked through
-found_among : (P : ℕ → Type 0) (f : ℕ → Option ℕ) (ns : List ℕ) → All P ns → (found : Found) → first_definition f ns ≡ Some found → P found.module
-found_among P f [] all found is = absurd (none_found found is)
-  where
-    none_found : (found : Found) → None ≡ Some found → ⊥
-    none_found found is = cc
-found_among P f (n ∷ ns) all found is = here (f n) refl (λ later. found_among P f ns (All-tail P n ns all) found later)
-  where
-    here : (x : Option ℕ) → f n ≡ x → (first_definition f ns ≡ Some found → P found.module) → P found.module
-    here None fn rest = rest (sym (ap (λ x. answer f (cond (is_some x) (Some n) (find (λ m. is_some (f m)) ns))) fn) ∙ is)
-    here (Some s) fn rest =
-        let made : Found = record { «module» = n; symbol = s } in
-        let whole : Some made ≡ Some found =
-        sym (ap (λ x. answer f (cond (is_some x) (Some n) (find (λ m. is_some (f m)) ns))) fn ∙ ap (option_map (λ symbol. record { «module» = n; symbol = symbol })) fn) ∙ is in
-        let same : made ≡ found = cc in
-        subst (λ x. P x.module) same (All-head P n ns all)
-
 -- ---- what symbols mean
 
 module _ (l k : Linkage) (m : ℕ) (o : Object) (agree : AgreeFor l k m) where
@@ -75,11 +56,7 @@ module _ (l k : Linkage) (m : ℕ) (o : Object) (agree : AgreeFor l k m) where
   Known n = k.objects n ≡ l.objects n
 
   all_known : All Known (scope_of l m o)
-  all_known = by o.symbolic
-    where
-      by : (b : Bool) → All Known (cond b (m ∷ filter (λ n. not (n == m)) (l.scopes m)) (l.scopes m))
-      by true = All-cons Known m (filter (λ n. not (n == m)) (l.scopes m)) agree.own (All-filter (λ n. not (n == m)) Known (l.scopes m) agree.members)
-      by false = agree.members
+  all_known = in_scope l m o Known agree.own agree.members
 
   same_scope : scope_of k m o ≡ scope_of l m o
   same_scope = ap (λ ns. if o.symbolic then m ∷ filter (λ n. not (n == m)) ns else ns) agree.scopes
@@ -102,33 +79,10 @@ module _ (l k : Linkage) (m : ℕ) (o : Object) (agree : AgreeFor l k m) where
 
   -- the module of a definition is known
   abbrev IsKnown : Definition → Type 0
-  IsKnown (Is found) = Known found.module
-  IsKnown Nothing = Unit {0}
-  IsKnown Unresolved = Unit {0}
-
-  known_or : (x : Option Found) (weak : Bool) → ((found : Found) → x ≡ Some found → Known found.module) → IsKnown (definition_or x weak)
-  known_or (Some found) weak known = known found refl
-  known_or None true known = tt
-  known_or None false known = tt
-
-  known_lookup : (name : Option (List ℕ)) (found : Found) → lookup l m o name ≡ Some found → Known found.module
-  known_lookup None found is = absurd (none_found found is)
-    where
-      none_found : (found : Found) → None ≡ Some found → ⊥
-      none_found found is = cc
-  known_lookup (Some name) found is = found_among Known (export_of l name) (scope_of l m o) all_known found is
-
-  known_symbol : (s : ℕ) (y : Symbol) (b : Bool) → IsKnown (cond b (Is (record { «module» = m; symbol = s })) (definition_or (lookup l m o y.name) (y.binding == STB_WEAK)))
-  known_symbol s y true = agree.own
-  known_symbol s y false = known_or (lookup l m o y.name) (y.binding == STB_WEAK) (known_lookup y.name)
+  IsKnown d = FoundIn Known d
 
   known_definition : (s : ℕ) → IsKnown (definition_of l m o s)
-  known_definition s = by (symbol_at o s)
-    where
-      by : (x : Option Symbol)
-          → IsKnown (option_map_or (λ y. if is_own y then Is (record { «module» = m; symbol = s }) else definition_or (lookup l m o y.name) (y.binding == STB_WEAK)) x Unresolved)
-      by None = tt
-      by (Some y) = known_symbol s y (is_own y)
+  known_definition s = definition_in l m o Known agree.own agree.members s
 
   -- ---- what sites mean
 
@@ -143,19 +97,10 @@ module _ (l k : Linkage) (m : ℕ) (o : Object) (agree : AgreeFor l k m) where
 
   -- the module of a value is known
   abbrev HasHome : Value → Type 0
-  HasHome (Number n) = Unit {0}
-  HasHome (Address f) = Known f.module
+  HasHome v = ValueIn Known v
 
   home_of : (found : Found) → Known found.module → HasHome (value_of l found)
-  home_of found known = by (option_and_then (λ y. symbol_at y found.symbol) (l.objects found.module))
-    where
-      one : (b : Bool) (v : ℕ) → HasHome (cond b (Number v) (Address (record { «module» = found.module; value = v })))
-      one true v = tt
-      one false v = known
-
-      by : (x : Option Symbol) → HasHome (option_map_or (symbol_value found.module) x (Number 0))
-      by None = tt
-      by (Some y) = one (is_absolute y.place) y.value
+  home_of found known = value_in l Known found known
 
   same_placed_value : (site : ℕ) (v : Value) → HasHome v → placed_value k m site v ≡ placed_value l m site v
   same_placed_value site (Number n) home = refl

@@ -1,21 +1,21 @@
 -- Functions of slots are code, and placed link addresses have places.
-use Rattle.std.proofs.Common.{◌≡◌, ℕ, Bool, true, false, cond, Option, Some, None, Result, Ok, Err, List, refl, subst}
+use Rattle.std.proofs.Common.{◌≡◌, ℕ, true, cond, Option, Some, None, Ok, Err, List, refl, subst}
 use Rattle.std.specs.Prelude.{◌==◌}
 use Rattle.elf_model.specs.declared.constants.TheConstants.{R_ARM_FUNCDESC, R_ARM_FUNCDESC_VALUE, R_ARM_RELATIVE}
 use Rattle.elf_model.specs.declared.func.Func.{Func}
 use Rattle.elf_model.specs.declared.object.Object.{Object}
 use Rattle.elf_model.specs.declared.object.Rel.{Rel}
-use Rattle.load_model.specs.declared.error.LoadRefusal.{LoadRefusal}
 use Rattle.load_model.specs.declared.error.LoadRefusal.TheVariants.{BadAddress, NotCode}
 use Rattle.load_model.specs.declared.meaning.Definition.{Definition}
 use Rattle.load_model.specs.declared.meaning.Definition.TheVariants.{Symbol as Is, Nothing, Unresolved}
 use Rattle.load_model.specs.declared.meaning.SiteValue.{SiteValue}
-use Rattle.load_model.specs.declared.meaning.SiteValue.TheVariants.{Place as Placed, Formula, Pair, Descriptor}
+use Rattle.load_model.specs.declared.meaning.SiteValue.TheVariants.{Place as Placed, Formula, Pair, Stub, Descriptor}
 use Rattle.load_model.specs.declared.meaning.Value.{Value}
 use Rattle.load_model.specs.declared.meaning.Value.TheVariants.{Address, Number}
 use Rattle.load_model.specs.Definition.{Linkage, definition_of, name_at}
 use Rattle.load_model.specs.Sites.{value_of, is_placed, is_code, own_address, is_unnamed, addend_of, placed_value, value_for, value_at, coded_value, function_for, function_at, relative_at, written, site_value}
 use Rattle.load_sites.specs.parts.Laws.{SlotsLeadToCode, PlacedValuesHavePlaces}
+use Rattle.load_sites.proofs.GivenValues.{IfGiven, tested, chosen, as_written}
 
 -- ---- what holds of each value
 
@@ -27,28 +27,12 @@ abbrev IsPlaced : Linkage → Value → Type 0
 IsPlaced l (Number n) = Unit {0}
 IsPlaced l (Address f) = is_placed l f ≡ true
 
-abbrev IfGiven : {X : Type 0} → (X → Type 0) → Result X LoadRefusal → Type 0
-IfGiven P (Ok x) = P x
-IfGiven P (Err e) = Unit {0}
-
 abbrev IsFounded : Linkage → SiteValue → Type 0
 IsFounded l (Placed f) = is_placed l f ≡ true
 IsFounded l (Formula v) = IsPlaced l v
 IsFounded l (Pair f) = IsCoded l f
+IsFounded l (Stub z) = Unit {0}
 IsFounded l (Descriptor f) = IsCoded l f
-
--- a value that is given after a test passes it
-tested : {X : Type 0} (P : X → Type 0) (x : X) (e : LoadRefusal) (test b : Bool) → (test ≡ true → P x) → test ≡ b → IfGiven P (cond b (Ok x) (Err e))
-tested P x e test true holds is = holds is
-tested P x e test false holds is = tt
-
-chosen : {X : Type 0} (P : X → Type 0) (b : Bool) (x y : Result X LoadRefusal) → IfGiven P x → IfGiven P y → IfGiven P (cond b x y)
-chosen P true x y px py = px
-chosen P false x y px py = py
-
-as_written : {X : Type 0} (l : Linkage) (value : X → SiteValue) (P : X → Type 0) → ((x : X) → P x → IsFounded l (value x)) → (x : Result X LoadRefusal) → IfGiven P x → IfGiven (IsFounded l) (written value x)
-as_written l value P so (Ok x) p = so x p
-as_written l value P so (Err e) p = tt
 
 -- ---- functions
 
@@ -95,11 +79,11 @@ founded l m o r =
     let pair = written Pair (function_at l m o r) in
     let formula = written Formula (value_at l m o r) in
     let formulas =
-    as_written l Formula (IsPlaced l) (λ v p. p) (value_at l m o r)
+    as_written (IsFounded l) Formula (IsPlaced l) (λ v p. p) (value_at l m o r)
     (chosen (IsPlaced l) (r.symbol == 0) (Ok (Number 0)) (value_for l m o r (definition_of l m o r.symbol)) tt (value_for_placed l m o r (definition_of l m o r.symbol))) in
-    let pairs = as_written l Pair (IsCoded l) (λ f p. p) (function_at l m o r) (function_coded l m o r) in
-    let descriptors = as_written l Descriptor (IsCoded l) (λ f p. p) (function_at l m o r) (function_coded l m o r) in
-    let places = as_written l Placed (λ f. is_placed l f ≡ true) (λ f p. p) (relative_at l m o r) (relative_placed l m o r) in
+    let pairs = as_written (IsFounded l) Pair (IsCoded l) (λ f p. p) (function_at l m o r) (function_coded l m o r) in
+    let descriptors = as_written (IsFounded l) Descriptor (IsCoded l) (λ f p. p) (function_at l m o r) (function_coded l m o r) in
+    let places = as_written (IsFounded l) Placed (λ f. is_placed l f ≡ true) (λ f p. p) (relative_at l m o r) (relative_placed l m o r) in
     let rest = cond (r.kind == R_ARM_FUNCDESC_VALUE) pair formula in
     chosen P (r.kind == R_ARM_RELATIVE) place (cond (r.kind == R_ARM_FUNCDESC) descriptor rest) places
     (chosen P (r.kind == R_ARM_FUNCDESC) descriptor rest descriptors

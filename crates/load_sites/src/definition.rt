@@ -61,7 +61,7 @@ fn first_export(symbols: &[Symbol], name: &Name) -> Option<u32>
 
 /// The first definition of a name in a scope.
 fn find_in(tables: &Tables, scope: Option<&Numbers>, name: &Name) -> Option<Found>
-    ensures { result ≡ first_definition (export_in tables.now name.now) (unwrap_or (option_copied scope.entry) []) }
+    ensures { result ≡ first_definition (export_in tables.now.slots name.now) (unwrap_or (option_copied scope.entry) []) }
 {
     tables.find(scope?, name)
 }

@@ -1,6 +1,6 @@
 //! What holds of symbols and sites themselves. A call of one does nothing.
 
-ghost use Rattle.load_sites.specs.parts.Laws.{OwnSymbolsStayHome, LookUpsAgree, SlotsLeadToCode, PlacedValuesHavePlaces, SitesHaveWords};
+ghost use Rattle.load_sites.specs.parts.Laws.{OwnSymbolsStayHome, LookUpsAgree, SitesNameNearModules, SlotsLeadToCode, PlacedValuesHavePlaces, SitesHaveWords};
 
 /// A symbol that no other module's can replace means itself, whatever modules there are.
 pub fn own_symbols_stay_home()
@@ -11,6 +11,11 @@ pub fn own_symbols_stay_home()
 /// object, and on the objects of the modules in its scope, and on nothing else.
 pub fn look_ups_agree()
     ensures { LookUpsAgree }
+{}
+
+/// What the sites of a module name is in the module itself, or in a module of its scope.
+pub fn sites_name_near_modules()
+    ensures { SitesNameNearModules }
 {}
 
 /// The functions of slots and of descriptors are code.

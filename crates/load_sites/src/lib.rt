@@ -14,8 +14,8 @@ mod wanted;
 
 pub use laws::{
     look_ups_agree, own_symbols_stay_home, placed_values_have_places, sites_have_words,
-    slots_lead_to_code,
+    sites_name_near_modules, slots_lead_to_code,
 };
 pub use linker::Linker;
-pub use private::Privates;
+pub use private::{Privates, pair_of};
 pub use values::Values;

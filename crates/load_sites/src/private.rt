@@ -35,8 +35,8 @@ fn is_private(o: &Object, r: &Rel) -> bool
     }
 }
 
-/// The function of a descriptor.
-fn pair_of(value: SiteValue) -> Option<Func>
+/// The function of a descriptor or a slot.
+pub fn pair_of(value: SiteValue) -> Option<Func>
     ensures { result ≡ spec.pair_of (Ok value) }
 {
     match value {

@@ -15,6 +15,7 @@ use Rattle.load_model.specs.Joined.{process_after}
 use Rattle.load_model.specs.Layout.{IsLaidOut, HasLoadMap, HasPair}
 use Rattle.fd_base.specs.Ranges.{is_in}
 use Rattle.load_model.specs.Linkage.{linkage_of}
+use Rattle.load_model.specs.Unbound.{unbound_of}
 use Rattle.load_state.specs.declared.plan.GroupPlan.{GroupPlan}
 use Rattle.load_state.specs.Loaded.{Loaded, in_memory, placing_of}
 use Rattle.load_map.specs.Maps.{map_at}
@@ -24,7 +25,8 @@ abbrev pub HasNewImages : Loaded → List Joining → Type 0
 HasNewImages l joining =
     (j : Joining) (k : ℕ) (e : MapEntry) → Contains joining j → slice_get (map_at l.modules.maps j.number) k ≡ Some e
     → (i : ℕ) → i < e.memsz
-    → byte_at l.memory (e.addr + i) ≡ image_of (linkage_of l.modules.process) (placing_of l.modules.process l.modules.maps l.modules.addrs) j.number j.object (e.vaddr + i)
+    → byte_at l.memory (e.addr + i) ≡ image_of (linkage_of l.modules.process) (placing_of l.modules.process l.modules.maps l.modules.addrs)
+    j.number j.object (unbound_of l.modules.process j.number) (e.vaddr + i)
 
 -- an address at which the load writes nothing: in no new segment, no new load map and no new descriptor
 pub record IsElsewhere (plan : GroupPlan) (a : ℕ) : Type 0 where
@@ -40,7 +42,7 @@ pub record IsSameAt (old new : GuestMemory) (a : ℕ) : Type 0 where
 -- The new modules are live, placed where the plan says, and all that was there stays.
 pub record IsCommitted (old : Loaded) (plan : GroupPlan) (new : Loaded) : Type 0 where
   pub plan' : new.modules.plan ≡ old.modules.plan
-  pub process' : new.modules.process ≡ process_after old.modules.process plan.joining plan.scope plan.global
+  pub process' : new.modules.process ≡ process_after old.modules.process plan.lazy plan.joining plan.scope plan.global
   pub maps' : new.modules.maps ≡ plan.maps
   pub held' : new.modules.held ≡ all_held plan.items plan.addrs old.modules.held
   pub addrs' : (f : Func) → get new.modules.addrs f ≡ descriptors_after (get old.modules.addrs) plan.adopted plan.given f

@@ -29,6 +29,7 @@ use Rattle.load_model.specs.Linkage.{linkage_of}
 use Rattle.load_model.specs.Plan.{Fits, low_of, high_of}
 use Rattle.load_model.specs.Process.{object_at, is_live}
 use Rattle.load_model.specs.Sites.{refusals_of, site_value}
+use Rattle.load_model.specs.Unbound.{unbound_of}
 use Rattle.elf_model.specs.Filled.{site_relocations}
 use Rattle.load_model.specs.Validity.{IsValid}
 use Rattle.load_state.specs.Loaded.{Loaded, LoadedModules, in_memory, placing_of, pool_of}
@@ -80,11 +81,16 @@ pub record HasDescriptors (l : LoadedModules) : Type 0 where
   pub places : (f : Func) (a : ℕ) → own_site (linkage_of l.process) f ≡ None → get l.addrs f ≡ Some a → IsSlot (pool_of l.plan l.addrs) a
   pub distinct : (f g : Func) (a : ℕ) → get l.addrs f ≡ Some a → get l.addrs g ≡ Some a → f ≡ g
 
--- each watched byte of a module is that of its image
+-- each watched byte of module m is that of its image, as its slots are bound or not
+abbrev pub HoldsImage : Loaded → ℕ → Object → Type 0
+HoldsImage l m o =
+    (k : ℕ) (e : MapEntry) → slice_get (map_at l.modules.maps m) k ≡ Some e → (i : ℕ) → i < e.memsz → is_watched l.memory (e.addr + i) ≡ true
+    → byte_at l.memory (e.addr + i) ≡ image_of (linkage_of l.modules.process) (placing_of l.modules.process l.modules.maps l.modules.addrs)
+    m o (unbound_of l.modules.process m) (e.vaddr + i)
+
+-- each live module does
 pub record HoldsImages (l : Loaded) : Type 0 where
-  pub bytes : (m : ℕ) (o : Object) (k : ℕ) (e : MapEntry) → object_at l.modules.process m ≡ Some o → slice_get (map_at l.modules.maps m) k ≡ Some e
-      → (i : ℕ) → i < e.memsz → is_watched l.memory (e.addr + i) ≡ true
-      → byte_at l.memory (e.addr + i) ≡ image_of (linkage_of l.modules.process) (placing_of l.modules.process l.modules.maps l.modules.addrs) m o (e.vaddr + i)
+  pub bytes : (m : ℕ) (o : Object) → object_at l.modules.process m ≡ Some o → HoldsImage l m o
 
 -- the stubs, the load maps and the slots of descriptors
 pub record HoldsTables (l : Loaded) : Type 0 where

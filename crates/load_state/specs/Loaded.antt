@@ -8,11 +8,11 @@ use Rattle.guest_mem.specs.Memory.{GuestMemory}
 use Rattle.placement.specs.declared.item.Held.{Held}
 use Rattle.load_model.specs.declared.module.SymbolicProcess.{SymbolicProcess}
 use Rattle.load_model.specs.declared.plan.MemPlan.{MemPlan}
-use Rattle.load_model.specs.declared.plan.TheConstants.{DESCRIPTORS}
-use Rattle.load_model.specs.Image.{Placing}
+use Rattle.load_model.specs.Image.{Placing, load_map_at}
 use Rattle.load_map.specs.Maps.{map_at}
 use Rattle.load_map.specs.Translation.{placed}
 use Rattle.load_model.specs.Layout.{InMemory}
+use Rattle.load_model.specs.Plan.{descriptors_at}
 use Rattle.load_model.specs.Process.{object_at}
 
 -- what is placed, in a memory plan that never changes
@@ -31,11 +31,13 @@ pub record Loaded : Type 0 where
   pub modules : LoadedModules
   pub memory : GuestMemory
 
--- a loader: what it holds, and for how many more ranges and adopted descriptors there is room
+-- a loader: what it holds, for how many more ranges and adopted descriptors there is room, and for the tables of how many
+-- numbers from 0 on
 pub record LoaderState : Type 0 where
   pub loaded : Loaded
   pub range_room : ℕ
   pub descriptor_room : ℕ
+  pub table_room : ℕ
 
 -- The same. Room that is reserved counts for nothing.
 abbrev pub IsUnchanged : LoaderState → LoaderState → Type 0
@@ -50,6 +52,7 @@ abbrev pub placing_of : SymbolicProcess → List (List MapEntry) → AddrMap →
 placing_of p maps addrs = record {
   maps = map_at maps;
   gots = λ m. option_map (λ o. o.got) (object_at p m);
+  load_maps = load_map_at;
   descriptors = get addrs;
 }
 
@@ -59,4 +62,4 @@ got_at p maps m = option_map (λ o. placed (map_at maps m) o.got) (object_at p m
 
 -- the slots of descriptors
 abbrev pub pool_of : MemPlan → AddrMap → Pool
-pool_of plan addrs = record { base = DESCRIPTORS; slots = plan.descriptors; addrs = addrs; room = 0 }
+pool_of plan addrs = record { base = descriptors_at plan; slots = plan.descriptors; addrs = addrs; room = 0 }

@@ -9,6 +9,7 @@ use Rattle.load_model.specs.declared.layout.TheConstants.{RESOLVER, RESOLVER_WOR
 use Rattle.load_model.specs.declared.module.SymbolicProcess.{SymbolicProcess}
 use Rattle.load_model.specs.declared.plan.MemPlan.{MemPlan}
 use Rattle.load_model.specs.Layout.{IsLaidOut, HasBytes, bytes_of_words}
+use Rattle.load_model.specs.Joined.{Asked}
 use Rattle.load_model.specs.Plan.{Fits}
 use Rattle.fd_base.specs.Ranges.{is_in}
 use Rattle.load_state.specs.declared.plan.GroupPlan.{GroupPlan}
@@ -44,12 +45,16 @@ pub record IsNew (plan : MemPlan) (l : Loaded) : Type 0 where
   pub ends : HasBytes l.memory THREAD_END (bytes_of_words END_WORDS)
   pub clear : (a : ℕ) → is_in RESOLVER (STUBS_END - RESOLVER) a ≡ false → byte_at l.memory a ≡ 0
 
+-- how a program is asked for: every slot is bound at once
+abbrev pub eager : Asked
+eager = record { global = false; lazy = false }
+
 -- this is what the load of a program leads to
 pub record IsProgramLoaded (plan : MemPlan) (told : Files) (name : List ℕ) (l : Loaded) : Type 0 where
   pub start : Loaded
   pub group : GroupPlan
   pub fresh : IsNew plan start
-  pub planned : IsPlan start.modules (Some told) name false group
+  pub planned : IsPlan start.modules (Some told) name eager group
   pub committed : IsCommitted start group l
 
 -- the same where the files are told

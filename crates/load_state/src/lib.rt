@@ -4,4 +4,4 @@
 
 mod plan;
 
-pub use plan::{Descriptors, GroupPlan, Parts};
+pub use plan::{Descriptors, GroupPlan, Parts, Targets};

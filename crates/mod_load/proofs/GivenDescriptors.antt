@@ -1,5 +1,5 @@
 -- The descriptors that functions get in a load: what a pool relies on.
-use Rattle.std.proofs.Common.{◌≡◌, ◌≢◌, ℕ, ◌<◌, ◌≤◌, Bool, true, List, [], ◌∷◌, length, get_or, take, map, filter, Option, None, refl, sym, ap, subst, ◌∙◌, arith, min, All}
+use Rattle.std.proofs.Common.{◌≡◌, ◌≢◌, ℕ, ◌<◌, ◌≤◌, true, List, [], ◌∷◌, length, get_or, take, map, filter, Option, None, refl, sym, ap, subst, ◌∙◌, arith, min, All}
 use Rattle.std.specs.Prelude.{AllPairs, not, is_some}
 use Rattle.std.specs.FinMap.{get}
 use Rattle.std.specs.List.{range_with_len, zip}
@@ -10,11 +10,12 @@ use Rattle.fd_base.specs.Fetched.{Files}
 use Rattle.elf_model.specs.declared.func.Func.{Func}
 use Rattle.func_desc.specs.Functions.{AddrMap, has_addr}
 use Rattle.func_desc.specs.Pool.{Pool, free_slots, slot_addr}
+use Rattle.load_model.specs.Joined.{Asked}
 use Rattle.load_laws.proofs.ConsistentAfter.{adoptable}
 use Rattle.load_laws.proofs.FreeSlots.{all_lack, lacks, not_listed, wanted_once}
 use Rattle.fd_base.proofs.Bools.{neither}
 use Rattle.fd_base.proofs.Options.{none_of}
-use Rattle.load_model.specs.declared.plan.TheConstants.{DESCRIPTORS}
+use Rattle.load_model.specs.Plan.{descriptors_at}
 use Rattle.load_model.specs.Descriptors.{is_listed, listed_addr, privates}
 use Rattle.load_map.specs.Translation.{placed as placed_at}
 use Rattle.load_model.specs.Linkage.{members_of}
@@ -56,8 +57,8 @@ same_free p q base slots addrs =
     let free_of : ℕ → ℕ → AddrMap → List ℕ = λ b n m. filter (λ a. not (has_addr m a)) (map (slot_addr b) (range_with_len 0 n)) in
     ap (λ b. free_of b p.slots p.addrs) base ∙ ap (λ n. free_of q.base n p.addrs) slots ∙ ap (free_of q.base q.slots) addrs
 
-module _ (l : Loaded) (files : Option Files) (root : List ℕ) (asked : Bool) (plan : GroupPlan) (c : IsConsistent l) (planned : IsPlan l.modules files root asked plan) (taken : All (λ j. IsTaken j.object) plan.joining) where
-  module _ (pool : Pool) (base : pool.base ≡ DESCRIPTORS) (slots : pool.slots ≡ l.modules.plan.descriptors) (addrs : pool.addrs ≡ l.modules.addrs) where
+module _ (l : Loaded) (files : Option Files) (root : List ℕ) (asked : Asked) (plan : GroupPlan) (c : IsConsistent l) (planned : IsPlan l.modules files root asked plan) (taken : All (λ j. IsTaken j.object) plan.joining) where
+  module _ (pool : Pool) (base : pool.base ≡ descriptors_at l.modules.plan) (slots : pool.slots ≡ l.modules.plan.descriptors) (addrs : pool.addrs ≡ l.modules.addrs) where
     pub can_adopt : CanBeAdopted plan.adopted pool
     can_adopt = record {
       unused = λ f g a there is. (adoptable l files root asked plan c planned taken).unused f g a there (ap (λ m. get m g) (sym addrs) ∙ is);

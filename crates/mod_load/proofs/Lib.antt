@@ -1,10 +1,11 @@
 pub mod EnteredAddresses
-pub mod FirstNumber
+pub mod FewFlags
 pub mod GivenDescriptors
+pub mod KeptTargets
+pub mod LaterTargets
 pub mod LoaderParts
 pub mod NewLoader
 pub mod PartCounts
 pub mod PlanCalls
 pub mod ProgramLoads
 pub mod SlotWords
-pub mod TableSteps

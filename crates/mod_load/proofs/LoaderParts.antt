@@ -1,13 +1,17 @@
 -- What holds of a loader as it is seen holds of the parts inside it.
-use Rattle.std.proofs.Common.{◌≡◌, ℕ, ◌^◌, ◌<◌, Bool, List, length, Option, sym, subst, All}
+use Rattle.std.proofs.Common.{◌≡◌, ℕ, ◌^◌, ◌<◌, List, length, Option, sym, subst, All}
 use Rattle.fd_base.specs.Fetched.{Files}
+use Rattle.load_map.specs.declared.entry.MapEntry.{MapEntry}
 use Rattle.load_map.specs.parts.IsLoadMap.{EndsBelow}
 use Rattle.load_places.proofs.SegmentEnds.{maps_end_lem}
+use Rattle.load_model.specs.Joined.{Asked}
 use Rattle.load_process.specs.parts.TakenObjects.{IsTaken}
 use Rattle.load_state.specs.declared.plan.GroupPlan.{GroupPlan}
 use Rattle.load_state.specs.Accepted.{IsPlan}
 use Rattle.load_state.specs.Consistent.{IsConsistent}
 use Rattle.load_state.specs.Loaded.{Loaded, LoaderState}
+use Rattle.placed_code.specs.parts.PlacedModules.{ArePlaced}
+use Rattle.placed_code.proofs.ModulesPlaced.{consistent_are_placed}
 use Rattle.mod_load.specs.parts.ReadyPlans.{MayCommit}
 
 pub consistent_of : {inside seen : LoaderState} → inside ≡ seen → IsConsistent seen.loaded → IsConsistent inside.loaded
@@ -19,11 +23,18 @@ ends_of {inside = inside} is consistent small =
     let c = consistent_of is consistent in
     maps_end_lem.old inside.loaded.modules c.modules' (subst (λ (n : ℕ). n < 2 ^ 32) c.laid_out.size small)
 
+-- the modules are placed
+pub placed_of : {inside seen : LoaderState} {maps : List (List MapEntry)} → inside ≡ seen → IsConsistent seen.loaded → length inside.loaded.memory.bytes < 2 ^ 32
+    → maps ≡ inside.loaded.modules.maps → ArePlaced inside.loaded.modules.process maps
+placed_of {inside = inside} is consistent small same =
+    let c = consistent_of is consistent in
+    subst (ArePlaced inside.loaded.modules.process) (sym same) (consistent_are_placed inside.loaded c (subst (λ (n : ℕ). n < 2 ^ 32) c.laid_out.size small))
+
 -- a plan of a consistent loader
 pub record IsPlanOf (l : Loaded) (plan : GroupPlan) : Type 0 where
   pub files : Option Files
   pub root' : List ℕ
-  pub asked : Bool
+  pub asked : Asked
   pub consistent : IsConsistent l
   pub planned : IsPlan l.modules files root' asked plan
   pub taken : All (λ j. IsTaken j.object) plan.joining

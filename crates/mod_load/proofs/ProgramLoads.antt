@@ -1,5 +1,5 @@
 -- The load of a program, from what the loader's calls answer.
-use Rattle.std.proofs.Common.{◌≡◌, ℕ, List, false, Option, Some, None, subst}
+use Rattle.std.proofs.Common.{◌≡◌, ℕ, List, Option, Some, None, subst}
 use Rattle.fd_base.specs.Fetched.{Files}
 use Rattle.load_model.specs.declared.error.LoadErr.{LoadErr}
 use Rattle.load_model.specs.declared.error.LoadErr.TheVariants.{Refused, StoreFault, Memory as Lacks}
@@ -10,12 +10,12 @@ use Rattle.load_state.specs.declared.plan.GroupPlan.{GroupPlan}
 use Rattle.load_state.specs.Accepted.{IsPlan}
 use Rattle.load_state.specs.Committed.{IsCommitted}
 use Rattle.load_state.specs.Loaded.{Loaded, LoadedModules}
-use Rattle.load_state.specs.ProgramLoad.{IsCause, IsNew, LoadsProgram, start_of}
+use Rattle.load_state.specs.ProgramLoad.{IsCause, IsNew, LoadsProgram, eager, start_of}
 use Rattle.load_state.specs.Refused.{IsRefused}
 
 -- what the first load comes to
 pub loads : (files : Option Files) (plan : MemPlan) (name : List ℕ) (start mid new : Loaded) (g : GroupPlan) → IsNew plan start
-    → IsPlan start.modules files name false g → mid ≡ start → IsCommitted mid g new → LoadsProgram plan name files new
+    → IsPlan start.modules files name eager g → mid ≡ start → IsCommitted mid g new → LoadsProgram plan name files new
 loads None plan name start mid new g fresh h same c = tt
 loads (Some told) plan name start mid new g fresh h same c = record {
   start = start;

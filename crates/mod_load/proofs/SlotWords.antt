@@ -1,5 +1,5 @@
 -- The words of slots: live modules hold their images, and a program can't change a slot.
-use Rattle.std.proofs.Common.{◌≡◌, zero, suc, ℕ, ◌+◌, ◌-◌, ◌^◌, ◌<◌, ◌≤◌, true, List, [], ◌∷◌, ◌++◌, length, map, filter, slice_get, Option, Some, None, Result, Ok, Err, refl, sym, ap, subst, ◌∙◌, arith, All}
+use Rattle.std.proofs.Common.{◌≡◌, zero, suc, ℕ, ◌+◌, ◌-◌, ◌^◌, ◌<◌, ◌≤◌, Bool, true, cond, List, [], ◌∷◌, ◌++◌, length, map, filter, slice_get, Option, Some, None, Result, Ok, Err, refl, sym, ap, subst, ◌∙◌, arith, All}
 use Rattle.std.specs.Prelude.{Contains, find, option_map, slice_index, unwrap_or, ◌==◌}
 use Rattle.std.specs.FinMap.{empty}
 use Rattle.std.specs.Int.{w32, to_le_bytes, from_le_bytes}
@@ -9,7 +9,7 @@ use Rattle.std.specs.Result.{result_err}
 use Rattle.std.proofs.lemmas.Bool.Decides.{Decides-eqb}
 use Rattle.std.proofs.lemmas.List.Elements.{All-contains, All-nil, All-head, All-tail, Contains-append_left, Contains-append_right}
 use Rattle.std.proofs.lemmas.Nat.{from_le_bytes-to_le_bytes_4}
-use Rattle.std.proofs.lemmas.Option.{slice_get-map}
+use Rattle.std.proofs.lemmas.Option.{slice_get-map, slice_get_past}
 use Rattle.load_map.specs.declared.entry.MapEntry.{MapEntry}
 use Rattle.load_map.specs.Translation.{is_end_of, is_held_by, placed_by, placed}
 use Rattle.elf_model.specs.declared.constants.TheConstants.{R_ARM_FUNCDESC_VALUE}
@@ -19,7 +19,9 @@ use Rattle.elf_model.specs.declared.object.Rel.{Rel}
 use Rattle.elf_model.specs.Places.{is_writable_in, site_of_rel}
 use Rattle.elf_model.specs.Sound.{IsInPlace}
 use Rattle.guest_mem.specs.Memory.{GuestMemory, byte_at, is_watched}
+use Rattle.fd_base.proofs.Options.{map-map}
 use Rattle.fd_base.proofs.Members.{contains_at, filter_map_in, map_in, nothing_in, contains_later}
+use Rattle.load_laws.proofs.SlotFunctions.{pair_value}
 use Rattle.load_places.proofs.SegmentEnds.{maps_end_lem}
 use Rattle.load_places.proofs.PairedLists.{zip_gives}
 use Rattle.load_image.proofs.StandingWords.{site_stands}
@@ -36,13 +38,17 @@ use Rattle.load_model.specs.declared.module.SymbolicProcess.{SymbolicProcess}
 use Rattle.load_model.specs.declared.words.LinkWord.{LinkWord}
 use Rattle.load_model.specs.declared.words.SlotPair.{SlotPair}
 use Rattle.load_model.specs.Definition.{Linkage}
-use Rattle.load_model.specs.Image.{Placing, got_of, image_of, pair_at, pair_words, place_of}
+use Rattle.load_model.specs.Image.{Placing, got_of, image_of, pair_at, place_of}
+use Rattle.load_image.proofs.SlotPairWords.{pair_now}
+use Rattle.load_model.specs.Unbound.{stub_of, stub_or, unbound_of, waits}
+use Rattle.elf_model.specs.declared.filled.FilledSite.{FilledSite}
+use Rattle.elf_model.proofs.FilledSites.{slot_listed, slots_numbered}
 use Rattle.load_map.specs.Maps.{map_at}
 use Rattle.load_model.specs.Layout.{watched_ranges}
 use Rattle.load_model.specs.Linkage.{linkage_of}
 use Rattle.load_model.specs.Process.{object_at}
 use Rattle.load_model.specs.Sites.{function_at, refusals_of, site_value, written}
-use Rattle.elf_model.specs.Filled.{site_relocations}
+use Rattle.elf_model.specs.Filled.{site_relocations, slot_site, slot_sites}
 use Rattle.load_model.specs.Plan.{high_of}
 use Rattle.load_process.proofs.Lists.{to_filter}
 use Rattle.fd_base.proofs.Finding.{find_some}
@@ -78,10 +84,6 @@ map_ends (es ∷ maps) all (suc m) = map_ends maps (All-tail (All EndsBelow) es 
 
 -- ---- a slot's function
 
-pair_value : (k : Linkage) (m : ℕ) (o : Object) (r : Rel) → r.kind ≡ R_ARM_FUNCDESC_VALUE → site_value k m o r ≡ written Pair (function_at k m o r)
-unfolding site_value
-pair_value k m o r kind = rw kind refl
-
 function_given : (x : Result (Option Func) LoadRefusal) → result_err (written Pair x) ≡ None → x ≡ Ok (function_or_none x)
 function_given (Ok f) none = refl
 function_given (Err e) none = absurd cc
@@ -90,10 +92,6 @@ no_refusal : (k : Linkage) (m : ℕ) (o : Object) (r : Rel) (x : Option LoadRefu
 no_refusal k m o r None filled there is = refl
 no_refusal k m o r (Some e) filled there is =
     absurd (nothing_in e (subst (λ (es : List LoadRefusal). Contains es e) filled (filter_map_in (λ (q : Rel). result_err (site_value k m o q)) (site_relocations o) r e there is)))
-
-pair_of : (p : Placing) (site : ℕ) (f : Option Func) → pair_words p site f ≡ pair_at site (option_map_or (place_of p) f 0) (option_map_or (λ g. got_of p g.module) f 0)
-pair_of p site None = refl
-pair_of p site (Some f) = refl
 
 writable_at : (o : Object) (r : Rel) → r.kind ≡ R_ARM_FUNCDESC_VALUE → IsInPlace o.segments (site_of_rel r) → is_writable_in o.segments r.site 8 ≡ true
 writable_at o r kind place =
@@ -123,6 +121,13 @@ module _ (l : Loaded) (c : IsConsistent l) (small : length l.memory.bytes < 2 ^ 
   lies : LiesIn o.segments es r.site 8
   lies = lies_in o.segments es r.site 8 same (writable_at o r kind (all_at (λ (q : Rel). IsInPlace o.segments (site_of_rel q)) o.jmprels k r (slots_in_place o stands.sound) at))
 
+  -- the slot, and the flags of its module
+  abbrev slot : FilledSite
+  slot = slot_site k r
+
+  abbrev u : List Bool
+  u = unbound_of l.modules.process m
+
   abbrev f : Option Func
   f = function_or_none (function_at (linkage_of l.modules.process) m o r)
 
@@ -132,10 +137,15 @@ module _ (l : Loaded) (c : IsConsistent l) (small : length l.memory.bytes < 2 ^ 
       let none : result_err (site_value (linkage_of l.modules.process) m o r) ≡ None = no_refusal (linkage_of l.modules.process) m o r _ stands.filled listed refl in
       written' ∙ ap (written Pair) (function_given (function_at (linkage_of l.modules.process) m o r) (ap result_err (sym written') ∙ none))
 
-  words : All (HasWord (image_of (linkage_of l.modules.process) P m o)) (pair_at r.site (option_map_or (place_of P) f 0) (option_map_or (λ g. got_of P g.module) f 0))
+  -- where it leads now
+  abbrev now : Option Func
+  now = cond (waits u slot) (Some (stub_of m o r)) f
+
+  words : All (HasWord (image_of (linkage_of l.modules.process) P m o u)) (pair_at r.site (option_map_or (place_of P) now 0) (option_map_or (λ g. got_of P g.module) now 0))
   words =
-      subst (All (HasWord (image_of (linkage_of l.modules.process) P m o))) (pair_of P r.site f)
-      (site_stands (linkage_of l.modules.process) P m o r (Pair f) stands.sound listed value_is)
+      subst (All (HasWord (image_of (linkage_of l.modules.process) P m o u))) (pair_now P m o r (waits u slot) f)
+      (site_stands (linkage_of l.modules.process) P m o u slot (stub_or (waits u slot) o r (Pair f)) stands.sound (slot_listed o k r at)
+      (ap (written (stub_or (waits u slot) o r)) value_is))
 
   within : (lies.e.addr ≤ placed es r.site) × (placed es r.site + 8 ≤ lies.e.addr + lies.e.memsz)
   within = inside o.segments es same stands.sound.apart r.site 8 (omega arith) lies
@@ -147,7 +157,7 @@ module _ (l : Loaded) (c : IsConsistent l) (small : length l.memory.bytes < 2 ^ 
       (to_filter (λ (q : Rel). q.kind == R_ARM_FUNCDESC_VALUE) (site_relocations o) r ((Decides-eqb r.kind R_ARM_FUNCDESC_VALUE).1 kind) listed))
 
   -- each byte of the slot is that of the image
-  byte : (i : ℕ) → i < 8 → byte_at l.memory (placed es r.site + i) ≡ image_of (linkage_of l.modules.process) P m o (r.site + i)
+  byte : (i : ℕ) → i < 8 → byte_at l.memory (placed es r.site + i) ≡ image_of (linkage_of l.modules.process) P m o u (r.site + i)
   byte i lt =
       let from : lies.s.vaddr ≤ r.site = lies.from in
       let vaddr : lies.e.vaddr ≡ lies.s.vaddr = lies.same.vaddr in
@@ -159,8 +169,8 @@ module _ (l : Loaded) (c : IsConsistent l) (small : length l.memory.bytes < 2 ^ 
       let linked : lies.e.vaddr + (r.site - lies.e.vaddr + i) ≡ r.site + i = omega arith in
       let watched = c.laid_out.watched m (placed es r.site) 8 (placed es r.site + i) (record { object' = o; live = live; listed = range }) (is_inside (placed es r.site) 8 (placed es r.site + i) (omega arith) (omega arith)) in
       sym (ap (byte_at l.memory) addr)
-      ∙ c.images.bytes m o lies.k lies.e live lies.entry (r.site - lies.e.vaddr + i) (omega arith) (subst (λ (a : ℕ). is_watched l.memory a ≡ true) (sym addr) watched)
-      ∙ ap (image_of (linkage_of l.modules.process) P m o) linked
+      ∙ c.images.bytes m o live lies.k lies.e lies.entry (r.site - lies.e.vaddr + i) (omega arith) (subst (λ (a : ℕ). is_watched l.memory a ≡ true) (sym addr) watched)
+      ∙ ap (image_of (linkage_of l.modules.process) P m o u) linked
 
   maps_small : (n : ℕ) (v : ℕ) → placed (map_at l.modules.maps n) v < 2 ^ 32
   maps_small n v = placed_small (map_at l.modules.maps n) v (map_ends l.modules.maps (maps_end_lem.old l.modules c.modules' (subst (λ (n : ℕ). n < 2 ^ 32) c.laid_out.size small)) n)
@@ -177,48 +187,61 @@ module _ (l : Loaded) (c : IsConsistent l) (small : length l.memory.bytes < 2 ^ 
   got_below None = omega arith
   got_below (Some g) = got_at g.module (P.gots g.module)
 
-  slot_filled : IsFilled l.memory (slot_pair_at (linkage_of l.modules.process) (placing_of l.modules.process l.modules.maps empty) m o r)
+  slot_filled : IsFilled l.memory (slot_pair_at (linkage_of l.modules.process) (placing_of l.modules.process l.modules.maps empty) m o u slot)
   slot_filled =
-      let first : LinkWord = record { addr = r.site; value = option_map_or (place_of P) f 0 } in
-      let second : LinkWord = record { addr = r.site + 4; value = option_map_or (λ g. got_of P g.module) f 0 } in
+      let first : LinkWord = record { addr = r.site; value = option_map_or (place_of P) now 0 } in
+      let second : LinkWord = record { addr = r.site + 4; value = option_map_or (λ g. got_of P g.module) now 0 } in
       let memory_end : length l.memory.bytes ≡ l.modules.plan.memory = c.laid_out.size in
       let entry : IsEntryOf l.modules.plan _ lies.e = (zip_at_right (IsEntryOf l.modules.plan) o.segments es lies.k lies.e stands.mapped lies.entry).2 in
       let below : lies.e.addr + lies.e.memsz ≤ high_of l.modules.plan = entry.below in
       let high = within.1 in
       record {
         inside = omega arith;
-        code' = λ i lt. byte i (omega arith) ∙ All-head (HasWord (image_of (linkage_of l.modules.process) P m o)) first (second ∷ []) words i lt;
+        code' = λ i lt. byte i (omega arith) ∙ All-head (HasWord (image_of (linkage_of l.modules.process) P m o u)) first (second ∷ []) words i lt;
         got' = λ i lt.
             let at' : placed es r.site + 4 + i ≡ placed es r.site + (4 + i) = omega arith in
             let at'' : r.site + (4 + i) ≡ r.site + 4 + i = omega arith in
-            ap (byte_at l.memory) at' ∙ byte (4 + i) (omega arith) ∙ ap (image_of (linkage_of l.modules.process) P m o) at''
-            ∙ All-head (HasWord (image_of (linkage_of l.modules.process) P m o)) second [] (All-tail (HasWord (image_of (linkage_of l.modules.process) P m o)) first (second ∷ []) words) i lt;
-        code_small = code_below f;
-        got_small = got_below f;
+            ap (byte_at l.memory) at' ∙ byte (4 + i) (omega arith) ∙ ap (image_of (linkage_of l.modules.process) P m o u) at''
+            ∙ All-head (HasWord (image_of (linkage_of l.modules.process) P m o u)) second [] (All-tail (HasWord (image_of (linkage_of l.modules.process) P m o u)) first (second ∷ []) words) i lt;
+        code_small = code_below now;
+        got_small = got_below now;
       }
 
 -- ---- all slots
 
+-- slot k of module m, whose object is o
+abbrev pub pair_in : SymbolicProcess → List (List MapEntry) → ℕ → Object → FilledSite → SlotPair
+pair_in p maps m o s = slot_pair_at (linkage_of p) (placing_of p maps empty) m o (unbound_of p m) s
+
 pub pair_told : (p : SymbolicProcess) (maps : List (List MapEntry)) (m k : ℕ) (o : Object) → object_at p m ≡ Some o
-    → slot_pair_of p maps m k ≡ option_map (slot_pair_at (linkage_of p) (placing_of p maps empty) m o) (slice_get o.jmprels k)
+    → slot_pair_of p maps m k ≡ option_map (λ r. pair_in p maps m o (slot_site k r)) (slice_get o.jmprels k)
 pair_told p maps m k o live =
-    let pairs : Object → List SlotPair = λ x. map (slot_pair_at (linkage_of p) (placing_of p maps empty) m x) x.jmprels in
-    ap (λ x. slice_get (option_map_or pairs x []) k) live ∙ slice_get-map (slot_pair_at (linkage_of p) (placing_of p maps empty) m o) o.jmprels k
+    let pairs : Object → List SlotPair = λ x. map (pair_in p maps m x) (slot_sites 0 x.jmprels) in
+    ap (λ x. slice_get (option_map_or pairs x []) k) live
+    ∙ slice_get-map (pair_in p maps m o) (slot_sites 0 o.jmprels) k
+    ∙ ap (option_map (pair_in p maps m o)) (slots_numbered o.jmprels k)
+    ∙ map-map (slot_site k) (pair_in p maps m o) (slice_get o.jmprels k)
 
 pub none_told : (p : SymbolicProcess) (maps : List (List MapEntry)) (m k : ℕ) → object_at p m ≡ None → slot_pair_of p maps m k ≡ None
-none_told p maps m k none = ap (λ x. slice_get (option_map_or (λ o. map (slot_pair_at (linkage_of p) (placing_of p maps empty) m o) o.jmprels) x []) k) none
+none_told p maps m k none = ap (λ x. slice_get (option_map_or (λ o. map (pair_in p maps m o) (slot_sites 0 o.jmprels)) x []) k) none
+
+-- past the last slot there is none
+pub past_told : (p : SymbolicProcess) (maps : List (List MapEntry)) (m k : ℕ) (o : Object) → object_at p m ≡ Some o → length o.jmprels ≤ k
+    → slot_pair_of p maps m k ≡ None
+past_told p maps m k o live past =
+    pair_told p maps m k o live ∙ ap (option_map (λ r. pair_in p maps m o (slot_site k r))) (slice_get_past o.jmprels k past)
 
 pub has_slots : (l : Loaded) → IsConsistent l → length l.memory.bytes < 2 ^ 32 → HasSlots l.modules.process l.modules.maps l.memory
 has_slots l c small m k s is = by (object_at l.modules.process m) refl
   where
     at : (o : Object) → object_at l.modules.process m ≡ Some o → (x : Option Rel) → slice_get o.jmprels k ≡ x → IsFilled l.memory s
     at o live None none =
-        let never : None ≡ Some s = sym (pair_told l.modules.process l.modules.maps m k o live ∙ ap (option_map (slot_pair_at (linkage_of l.modules.process) (placing_of l.modules.process l.modules.maps empty) m o)) none) ∙ is in
+        let never : None ≡ Some s = sym (pair_told l.modules.process l.modules.maps m k o live ∙ ap (option_map (λ q. pair_in l.modules.process l.modules.maps m o (slot_site k q))) none) ∙ is in
         absurd cc
     at o live (Some r) there =
-        let both : Some (slot_pair_at (linkage_of l.modules.process) (placing_of l.modules.process l.modules.maps empty) m o r) ≡ Some s =
-        sym (pair_told l.modules.process l.modules.maps m k o live ∙ ap (option_map (slot_pair_at (linkage_of l.modules.process) (placing_of l.modules.process l.modules.maps empty) m o)) there) ∙ is in
-        let same_pair : slot_pair_at (linkage_of l.modules.process) (placing_of l.modules.process l.modules.maps empty) m o r ≡ s = cc in
+        let both : Some (pair_in l.modules.process l.modules.maps m o (slot_site k r)) ≡ Some s =
+        sym (pair_told l.modules.process l.modules.maps m k o live ∙ ap (option_map (λ q. pair_in l.modules.process l.modules.maps m o (slot_site k q))) there) ∙ is in
+        let same_pair : pair_in l.modules.process l.modules.maps m o (slot_site k r) ≡ s = cc in
         subst (IsFilled l.memory) same_pair (slot_filled l c small m o live k r there)
 
     by : (x : Option Object) → object_at l.modules.process m ≡ x → IsFilled l.memory s
@@ -229,17 +252,17 @@ has_slots l c small m k s is = by (object_at l.modules.process m) refl
 
 module _ (p : SymbolicProcess) (maps : List (List MapEntry)) (memory : GuestMemory) (m k : ℕ) (o : Object) (r : Rel) (addr : ℕ) (filled : HasSlots p maps memory) (live : object_at p m ≡ Some o) (at : slice_get o.jmprels k ≡ Some r)
     (place : addr ≡ placed (map_at maps m) r.site) where
-  this_slot : slot_pair_of p maps m k ≡ Some (slot_pair_at (linkage_of p) (placing_of p maps empty) m o r)
-  this_slot = pair_told p maps m k o live ∙ ap (option_map (slot_pair_at (linkage_of p) (placing_of p maps empty) m o)) at
+  this_slot : slot_pair_of p maps m k ≡ Some (pair_in p maps m o (slot_site k r))
+  this_slot = pair_told p maps m k o live ∙ ap (option_map (λ q. pair_in p maps m o (slot_site k q))) at
 
-  this_filled : IsFilled memory (slot_pair_at (linkage_of p) (placing_of p maps empty) m o r)
-  this_filled = filled m k (slot_pair_at (linkage_of p) (placing_of p maps empty) m o r) this_slot
+  this_filled : IsFilled memory (pair_in p maps m o (slot_site k r))
+  this_filled = filled m k (pair_in p maps m o (slot_site k r)) this_slot
 
   pub slot_inside : addr + 8 ≤ length memory.bytes
   slot_inside = subst (λ (a : ℕ). a + 8 ≤ length memory.bytes) (sym place) this_filled.inside
 
   pub slot_is : (pair : SlotPair) → ((s : SlotPair) → s.addr ≡ addr → IsFilled memory s → pair ≡ s) → Some pair ≡ slot_pair_of p maps m k
-  slot_is pair told = ap Some (told (slot_pair_at (linkage_of p) (placing_of p maps empty) m o r) (sym place) this_filled) ∙ sym this_slot
+  slot_is pair told = ap Some (told (pair_in p maps m o (slot_site k r)) (sym place) this_filled) ∙ sym this_slot
 
 -- ---- four bytes
 

@@ -5,4 +5,4 @@ pub mod Fit
 pub mod Loans
 pub mod ReadyPlans
 pub mod SlotWords
-pub mod Tables
+pub mod Targets

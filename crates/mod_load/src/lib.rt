@@ -7,10 +7,10 @@ mod loader;
 mod program;
 mod slots;
 mod tables;
+mod targets;
 
 pub use load_model::{
     LoadErr, LoadRefusal, MAX_MODULES, MemPlan, PlaceLine, Places, SlotPair, SymbolicProcess,
-    THREADS,
 };
 pub use load_state::GroupPlan;
 pub use loader::Loader;

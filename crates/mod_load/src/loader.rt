@@ -5,16 +5,17 @@ ghost use Rattle.symbol_scope.specs.declared.tables.TheConstants.{MAX_MODULES};
 
 use crate::descriptors::{adopt_all, give_all};
 use crate::slots::slot_pair;
-use crate::tables::tables_or_new;
+use crate::tables::put_tables;
+use crate::targets::put_targets;
 use fd_base::{Memory, Name, Seq, Store};
 use func_desc::DescPool;
 use guest_mem::Guest;
 use load_memory::new_memory;
-use load_model::{DESCRIPTORS, LoadErr, MAX_MODULES, Maps, MemPlan, SlotPair, SymbolicProcess};
+use load_model::{LoadErr, MAX_MODULES, Maps, MemPlan, SlotPair, SymbolicProcess};
 use load_places::{put_descriptors, put_modules};
 use load_plan::{Request, Standing, plan_group};
 use load_process::{join, new_process};
-use load_state::GroupPlan;
+use load_state::{GroupPlan, Targets};
 use placement::Ranges;
 use std::alloc::Global;
 use std::marker::Model;
@@ -29,8 +30,10 @@ pub struct Loader {
     pub(crate) maps: Maps,
     pub(crate) ranges: Ranges,
     pub(crate) pool: DescPool,
-    /// Those of the live modules. None once a load has added some, until the next one is planned.
-    tables: Option<Tables>,
+    /// The exported names of the live modules. Those of new modules that a refused load read may stand beside them.
+    tables: Tables,
+    /// The function of each slot, by the number of its module.
+    pub(crate) targets: Vec<Targets>,
     pub(crate) guest: Guest,
 }
 
@@ -51,9 +54,10 @@ impl Model for Loader {
       };
       range_room = l.ranges.room;
       descriptor_room = l.pool.room;
+      table_room = l.tables.room;
     } };
 
-    ghost invariant = { λ l. IsFit l.plan l.process l.ranges l.pool l.tables };
+    ghost invariant = { λ l. IsFit l.plan l.process l.ranges l.pool l.tables l.targets.items };
 }
 
 impl Loader {
@@ -77,9 +81,11 @@ impl Loader {
         ensures { IfOk result (λ l. IsNew plan.now l.loaded) }
     {
         let process = new_process(alloc)?;
-        let maps = no_maps(alloc)?;
+        let maps: Maps = empty_lists(alloc)?;
         let ranges = Ranges::new(alloc, plan.low(), plan.high())?;
-        let pool = DescPool::new(alloc, DESCRIPTORS, plan.descriptors)?;
+        let pool = DescPool::new(alloc, plan.descriptors_at(), plan.descriptors)?;
+        let tables = Tables::new(alloc);
+        let targets: Seq<Targets> = empty_lists(alloc)?;
         let guest = new_memory(alloc, plan)?;
         Ok(Loader {
             alloc,
@@ -88,15 +94,16 @@ impl Loader {
             maps,
             ranges,
             pool,
-            tables: None,
+            tables,
+            targets: targets.into_vec(),
             guest,
         })
     }
 
     /// Plans the load of the module of this name and of all that it needs. Nothing is loaded before `commit`: the
     /// process stays, whatever the answer, and so each earlier plan that may be committed still may. With `global` the
-    /// global list is to gain the new modules. With `lazy` slots would be bound at their first calls, which is not built
-    /// yet.
+    /// global list is to gain the new modules. With `lazy` slots are left unbound until their first calls; that these
+    /// are then bound is not built yet.
     pub fn plan_group<S: Store>(
         &mut self,
         store: &mut S,
@@ -106,7 +113,7 @@ impl Loader {
     ) -> Result<GroupPlan, LoadErr>
         requires consistent { IsConsistent self.old.loaded }
         requires eager { lazy ≡ false }
-        ensures plan { IfOk result (IsPlan self.old.loaded.modules (S.files store.old) root.now global) }
+        ensures plan { IfOk result (IsPlan self.old.loaded.modules (S.files store.old) root.now (record { global = global; lazy = lazy })) }
         ensures ready { IfOk result (MayCommit self.new) }
         ensures earlier { (plan : GroupPlan) → MayCommit self.old plan → MayCommit self.new plan }
         ensures error { IfErr result (Explains (IsRefused self.old.loaded.modules (S.files store.old) root.now)
@@ -116,25 +123,21 @@ impl Loader {
         ensures files { S.files store.new ≡ S.files store.old }
         ensures count { S.faults store.old ≤ S.faults store.new }
     {
-        let _ = lazy;
         self.guest.whole();
-        let mut tables = tables_or_new(self.alloc, self.tables.take(), &self.process)?;
         let standing = Standing {
             alloc: self.alloc,
             plan: &self.plan,
             process: &self.process,
             maps: self.maps.as_slice(),
         };
-        let plan = plan_group(
+        plan_group(
             &standing,
             &mut self.ranges,
-            &mut tables,
+            &mut self.tables,
             &mut self.pool,
             store,
-            &Request { root, global },
-        );
-        self.tables = Some(tables);
-        plan
+            &Request { root, global, lazy },
+        )
     }
 
     /// Does a load as it was planned, and answers the number of the module that was asked for. Takes no memory, and
@@ -149,6 +152,10 @@ impl Loader {
         let GroupPlan {
             root,
             joining,
+            lazy: _,
+            unbound,
+            targets,
+            tables,
             scope,
             global,
             items,
@@ -165,7 +172,9 @@ impl Loader {
             maps.as_slice(),
             parts.as_slice(),
         );
-        join(&mut self.process, joining, scope, global);
+        put_tables(&mut self.tables, joining.as_slice(), tables);
+        put_targets(&mut self.targets, joining.as_slice(), targets);
+        join(&mut self.process, joining, unbound, scope, global);
         put_descriptors(
             &mut self.guest,
             &self.process,
@@ -176,7 +185,6 @@ impl Loader {
         adopt_all(&mut self.pool, adopted.as_slice());
         give_all(&mut self.pool, given.as_slice());
         self.maps = maps;
-        self.tables = None;
         root
     }
 
@@ -198,13 +206,13 @@ impl Loader {
     }
 }
 
-/// A load map without entries for each number.
-fn no_maps(alloc: Global) -> Result<Maps, Memory>
-    ensures { IfOk result (λ maps. maps ≡ replicate MAX_MODULES []) }
+/// A list without values for each number.
+fn empty_lists<T: Drop>(alloc: Global) -> Result<Seq<Seq<T>>, Memory>
+    ensures { IfOk result (λ lists. lists ≡ replicate MAX_MODULES []) }
 {
-    let mut maps = Seq::new(alloc);
+    let mut lists = Seq::new(alloc);
     for _ in 0..MAX_MODULES {
-        maps.push(Seq::new(alloc))?;
+        lists.push(Seq::new(alloc))?;
     }
-    Ok(maps)
+    Ok(lists)
 }

@@ -1,55 +1,27 @@
-//! The tables of the live modules.
+//! The tables of new modules.
 
-ghost use Rattle.std.specs.Prelude.{◌≡◌, ◌+◌, ◌<◌, ◌≤◌, length, IfOk, IfSome, OnOk};
-ghost use Rattle.symbol_scope.specs.declared.tables.TheConstants.{MAX_MODULES};
-ghost use Rattle.load_plan.specs.parts.LinkedLoad.{HasFewSymbols};
-ghost use Rattle.load_plan.specs.parts.Tables.{HasTables};
-ghost use Rattle.mod_load.specs.parts.Tables.{HasTablesBelow};
+ghost use Rattle.std.specs.Prelude.{◌≡◌, ◌<◌, length, All};
+ghost use Rattle.load_laws.specs.parts.Premises.{HaveOwnNumbers};
+ghost use Rattle.load_plan.specs.parts.Tables.{ArePut};
+ghost use Rattle.load_state.specs.Accepted.{tables_of};
 
-use fd_base::Memory;
-use load_model::{MAX_MODULES, SymbolicProcess};
-use std::alloc::Global;
-use symbol_scope::Tables;
+use fd_base::Seq;
+use load_model::Joining;
+use symbol_scope::{Table, Tables};
 
-/// Adds the table of the module of this number, if it is live.
-fn add_live(tables: &mut Tables, process: &SymbolicProcess, m: u32) -> Result<(), Memory>
-    requires number { m < MAX_MODULES }
-    requires few { HasFewSymbols process.now }
-    requires before { HasTablesBelow process.now m tables.old }
-    ensures { OnOk result (HasTablesBelow process.now (m + 1) tables.new) }
+/// Puts the tables of new modules into the places of their numbers, in order. Takes no memory.
+pub(crate) fn put_tables(tables: &mut Tables, joining: &[Joining], made: Seq<Table>)
+    requires numbers { HaveOwnNumbers joining.now }
+    requires places { All (λ j. j.number < length tables.old.slots) joining.now }
+    requires room { All (λ j. j.number < tables.old.room) joining.now }
+    requires made { made ≡ tables_of joining.now }
+    ensures { ArePut joining.now tables.old.slots tables.new.slots }
 {
-    match process.live_at(m) {
-        Some(live) => tables.add(m, &live.name, &live.object),
-        None => Ok(()),
-    }
-}
-
-/// The tables of the live modules.
-fn live_tables(alloc: Global, process: &SymbolicProcess) -> Result<Tables, Memory>
-    requires sizes { length process.now.modules ≤ MAX_MODULES }
-    requires few { HasFewSymbols process.now }
-    ensures { IfOk result (HasTables process.now) }
-{
-    let mut tables = Tables::new(alloc);
-    for m in 0..MAX_MODULES {
-        add_live(&mut tables, process, m)?;
-    }
-    Ok(tables)
-}
-
-/// These tables of the live modules, or else new ones.
-pub(crate) fn tables_or_new(
-    alloc: Global,
-    tables: Option<Tables>,
-    process: &SymbolicProcess,
-) -> Result<Tables, Memory>
-    requires tables { IfSome tables (HasTables process.now) }
-    requires sizes { length process.now.modules ≤ MAX_MODULES }
-    requires few { HasFewSymbols process.now }
-    ensures { IfOk result (HasTables process.now) }
-{
-    match tables {
-        Some(tables) => Ok(tables),
-        None => live_tables(alloc, process),
+    let mut left = made.into_vec().into_iter();
+    for new in joining {
+        let Some(table) = left.next() else {
+            unreachable!();
+        };
+        tables.put(new.number, table);
     }
 }

@@ -21,8 +21,8 @@ use Rattle.run_model.specs.Turns.{Taken, finished, gone_as, left_by, turn_of, tu
 use Rattle.run_turn.specs.declared.settling.Settled.{Settled}
 use Rattle.run_turn.specs.parts.Remainder.{IsAt, Left, state_with}
 use Rattle.run_turn.specs.parts.StopLaws.{StopsKeep}
-use Rattle.run_turn.specs.parts.PlacedLaws.{ConsistentArePlaced}
-use Rattle.run_turn.specs.parts.PlacedModules.{ArePlaced}
+use Rattle.placed_code.specs.parts.PlacedLaws.{ConsistentArePlaced}
+use Rattle.placed_code.specs.parts.PlacedModules.{ArePlaced}
 use Rattle.proc_run.specs.parts.TakenTurns.{HasObeyed, obeyed_in, thread_after}
 use Rattle.proc_run.proofs.LivePlaces.{one_lives, within}
 

@@ -9,7 +9,7 @@ use Rattle.load_model.specs.Explains.{Explains}
 use Rattle.load_state.specs.Loaded.{Loaded}
 use Rattle.load_state.specs.ProgramLoad.{IsCause, LoadsProgram}
 use Rattle.run_model.specs.declared.job.Job.{Job}
-use Rattle.run_model.specs.Places.{entry_point}
+use Rattle.placed_code.specs.Places.{entry_point}
 use Rattle.proc_run.specs.StartAnswers.{ExplainsStart, IsRefusedAs}
 
 as_refused : (job : Job) (told : Files) (r : LoadRefusal) (lazy : Bool) → lazy ≡ false → IsRefusedAs false job told r → IsRefusedAs lazy job told r

@@ -2,7 +2,7 @@
 use Rattle.std.specs.Prelude.{◌≡◌, ℕ, Some}
 use Rattle.load_state.specs.Loaded.{Loaded}
 use Rattle.run_model.specs.declared.thread.Thread.{Thread}
-use Rattle.run_model.specs.Places.{entry_point}
+use Rattle.placed_code.specs.Places.{entry_point}
 use Rattle.run_model.specs.Start.{first_cpu, first_events, first_thread, state_with}
 use Rattle.proc_run.specs.RunningProcess.{Running}
 

@@ -8,7 +8,7 @@ use Rattle.run_model.specs.declared.job.Job.{Job}
 use Rattle.run_model.specs.declared.thread.Turned.{Turned}
 use Rattle.run_model.specs.declared.thread.Turned.TheVariants as turned
 use Rattle.run_model.specs.Courses.{Course}
-use Rattle.run_model.specs.Places.{entry_point}
+use Rattle.placed_code.specs.Places.{entry_point}
 use Rattle.run_model.specs.Report.{report_of}
 use Rattle.run_model.specs.Start.{run_of}
 use Rattle.proc_run.specs.declared.end.RunEnd.{RunEnd}

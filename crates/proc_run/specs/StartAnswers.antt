@@ -8,7 +8,7 @@ use Rattle.load_model.specs.Explains.{Explains}
 use Rattle.load_state.specs.Loaded.{Loaded}
 use Rattle.load_state.specs.ProgramLoad.{IsLoadRefused, IsProgramLoaded, LoadsProgram}
 use Rattle.run_model.specs.declared.job.Job.{Job}
-use Rattle.run_model.specs.Places.{entry_point}
+use Rattle.placed_code.specs.Places.{entry_point}
 use Rattle.proc_run.specs.BegunProcess.{IsBegun}
 use Rattle.proc_run.specs.RunningProcess.{Running}
 

@@ -3,19 +3,19 @@
 ghost use Rattle.std.specs.Prelude.{◌≡◌, ◌<◌, ◌≤◌, ◌^◌, ◌++◌, false, map, replicate, set, IfOk, OnOk, None, Some, All, length};
 ghost use Rattle.load_state.specs.Loaded.{Loaded};
 ghost use Rattle.std.specs.Option.{option_to_list};
-ghost use Rattle.load_model.specs.declared.plan.TheConstants.{THREADS as COUNT};
-ghost use Rattle.run_model.specs.Places as place;
+ghost use Rattle.placed_code.specs.parts.PlacedModules.{ArePlaced};
+ghost use Rattle.run_model.specs.Calls.{call_begun};
 ghost use Rattle.run_model.specs.Start as spec;
 ghost use Rattle.run_model.specs.Turns.{entering};
-ghost use Rattle.run_turn.specs.parts.PlacedModules.{ArePlaced};
 ghost use Rattle.proc_run.specs.BegunProcess.{thread_at_entry};
 ghost use Rattle.run_turn.specs.parts.CallsInProgress.{BeganInTurn};
 
 use a32_machine::Cpu;
 use fd_base::Memory;
-use load_model::{Live, MapEntries, PROCESS_END, SymbolicProcess, THREADS};
+use load_model::{Live, MapEntries, PROCESS_END, SymbolicProcess};
+use placed_code::got_word;
 use run_model::{Call, Calls, Event, Thread};
-use run_turn::{Events, call_begun, got_word};
+use run_turn::{Events, call_begun};
 use std::alloc::Global;
 
 // ---- events
@@ -100,7 +100,7 @@ fn first_cpu(got: u32, stack_end: u32, entry: u32) -> Cpu
 /// The call that begins with these registers, if any.
 fn first_calls(process: &SymbolicProcess, maps: &[MapEntries], cpu: &Cpu) -> Calls
     requires { ArePlaced process.now maps.now }
-    ensures calls { result ≡ option_to_list (place.call_begun process.now maps.now cpu.now) }
+    ensures calls { result ≡ option_to_list (call_begun process.now maps.now cpu.now) }
     ensures progress { BeganInTurn result }
 {
     let mut calls = Calls::new();
@@ -131,22 +131,27 @@ pub(crate) fn first_thread(
     }
 }
 
-/// Places of threads, none of which live.
-fn no_threads(alloc: Global) -> Result<Vec<Option<Thread>>, Memory>
-    ensures { IfOk result (λ threads. threads.items ≡ replicate COUNT None) }
+/// So many places of threads, none of which live.
+fn no_threads(alloc: Global, count: u32) -> Result<Vec<Option<Thread>>, Memory>
+    ensures { IfOk result (λ threads. threads.items ≡ replicate count None) }
 {
     let mut threads = Vec::new(alloc);
-    for _ in 0..THREADS {
+    for _ in 0..count {
         threads.push(None)?;
     }
     Ok(threads)
 }
 
-/// The threads of a process whose thread 0 alone lives.
-pub(crate) fn threads_with(alloc: Global, thread: Thread) -> Result<Vec<Option<Thread>>, Memory>
-    ensures { IfOk result (λ threads. threads.items ≡ set (replicate COUNT None) 0 (Some thread)) }
+/// The threads of a process with so many places, whose thread 0 alone lives.
+pub(crate) fn threads_with(
+    alloc: Global,
+    count: u32,
+    thread: Thread,
+) -> Result<Vec<Option<Thread>>, Memory>
+    requires { 0 < count }
+    ensures { IfOk result (λ threads. threads.items ≡ set (replicate count None) 0 (Some thread)) }
 {
-    let mut threads = no_threads(alloc)?;
+    let mut threads = no_threads(alloc, count)?;
     threads[0] = Some(thread);
     Ok(threads)
 }

@@ -1,11 +1,10 @@
 //! A process that runs.
 
-ghost use Rattle.std.specs.Prelude.{◌≡◌, ◌≤◌, Some, None, IfErr, IfOk};
+ghost use Rattle.std.specs.Prelude.{◌≡◌, ◌<◌, ◌≤◌, ◌^◌, Some, None, IfErr, IfOk, length};
 ghost use Rattle.load_model.specs.declared.error.LoadErr.TheVariants.{Refused};
 ghost use Rattle.load_model.specs.declared.error.LoadRefusal.TheVariants.{NotCode};
-ghost use Rattle.load_model.specs.declared.plan.TheConstants.{THREADS as COUNT};
 ghost use Rattle.load_state.specs.Consistent.{IsConsistent};
-ghost use Rattle.run_model.specs.Places.{entry_point};
+ghost use Rattle.placed_code.specs.Places.{entry_point};
 ghost use Rattle.run_model.specs.State as state;
 ghost use Rattle.proc_run.specs.BegunProcess.{begun};
 ghost use Rattle.proc_run.specs.parts.ReadyProcess.{IsRunning};
@@ -13,11 +12,12 @@ ghost use Rattle.proc_run.specs.parts.ReadyProcess.{IsRunning};
 use crate::begin::{first_events, first_thread, threads_with};
 use crate::taking::take_turn;
 use fd_base::{Memory, Sink, SinkErr, Store};
-use load_model::{LoadErr, LoadRefusal, THREADS};
+use load_model::{LoadErr, LoadRefusal};
 use mod_load::{Loader, load_program};
+use placed_code::consistent_are_placed;
 use run_model::{Job, Thread, Turned};
 use run_report::put_report;
-use run_turn::{Events, Settled, consistent_are_placed, entry_point};
+use run_turn::{Events, Settled};
 use std::alloc::Global;
 use std::marker::Model;
 
@@ -50,12 +50,11 @@ impl Model for Process {
 }
 
 impl Process {
-    ghost use Rattle.std.specs.Prelude.{◌≡◌, ◌≤◌, ◌++◌, [], true, IfErr, IfOk, OnOk, IsTrue};
+    ghost use Rattle.std.specs.Prelude.{◌≡◌, ◌<◌, ◌≤◌, ◌^◌, ◌++◌, [], true, IfErr, IfOk, OnOk, IsTrue, length};
     ghost use Rattle.load_model.specs.Plan.{Fits};
     ghost use Rattle.run_model.specs.Report.{report_of};
     ghost use Rattle.run_model.specs.State.{lives, live_from};
     ghost use Rattle.run_model.specs.Turns.{turn_of};
-    ghost use Rattle.load_model.specs.declared.plan.TheConstants.{THREADS};
     ghost use Rattle.run_report.specs.parts.PieceByPiece.{Puts};
     ghost use Rattle.proc_run.specs.StartAnswers.{ExplainsStart, IsStarted};
     ghost use Rattle.proc_run.specs.parts.ReadyProcess.{IsRunning};
@@ -126,7 +125,7 @@ impl Process {
 
     /// The first live thread from a number on, in cyclic order.
     pub(crate) fn live_from(&self, thread: u32) -> Option<u32>
-        requires { thread ≤ THREADS }
+        requires { length self.now.state.threads < 2 ^ 32 }
         ensures { result ≡ live_from self.now.state.threads thread }
     {
         live_from(self.threads.as_slice(), thread)
@@ -183,9 +182,7 @@ fn entry_of(loader: &Loader) -> Result<u32, LoadErr>
     ensures entry { IfOk result (λ entry. entry_point loader.now.loaded.modules.process loader.now.loaded.modules.maps 0 ≡ Some entry) }
     ensures none { IfErr result (λ e. (e ≡ Refused (NotCode 0 None)) × (entry_point loader.now.loaded.modules.process loader.now.loaded.modules.maps 0 ≡ None)) }
 {
-    loader.whole();
-    consistent_are_placed();
-    match entry_point(loader.process(), loader.maps(), 0) {
+    match loader.entry_point(0) {
         Some(entry) => Ok(entry),
         None => Err(LoadErr::Refused(LoadRefusal::NotCode(0, None))),
     }
@@ -202,7 +199,7 @@ fn begin(alloc: Global, job: &Job, loader: Loader, entry: u32) -> Result<Process
     consistent_are_placed();
     let thread = first_thread(loader.process(), loader.maps(), job.plan.memory, entry);
     let pending = first_events(alloc, loader.process(), &thread)?;
-    let threads = threads_with(alloc, thread)?;
+    let threads = threads_with(alloc, job.plan.threads, thread)?;
     Ok(Process {
         alloc,
         loader,
@@ -224,11 +221,12 @@ fn lives(threads: &[Option<Thread>], t: u32) -> bool
 
 /// The first live thread from a number on, in cyclic order.
 fn live_from(threads: &[Option<Thread>], t: u32) -> Option<u32>
-    requires { t ≤ COUNT }
+    requires { length threads.now < 2 ^ 32 }
     ensures { result ≡ state.live_from threads.now t }
 {
-    for i in 0..THREADS {
-        let number = (t + i) % THREADS;
+    let count = threads.len() as u64;
+    for i in 0..count {
+        let number = ((t as u64 + i) % count) as u32;
         if lives(threads, number) {
             return Some(number);
         }

@@ -14,8 +14,9 @@ ghost use Rattle.run_turn.specs.parts.Remainder.{state_with};
 
 use fd_base::Memory;
 use mod_load::Loader;
+use placed_code::consistent_are_placed;
 use run_model::{Served, Stop, Thread};
-use run_turn::{PlacedModules, Settled, consistent_are_placed, obey, settle, stopped, stops_keep};
+use run_turn::{PlacedModules, Settled, obey, settle, stopped, stops_keep};
 use std::alloc::Global;
 
 /// Lets a live thread obey the instruction at its pc.

@@ -1,5 +1,5 @@
 -- The calls of a run arrive.
-use Rattle.std.proofs.Common.{◌≡◌, ◌≢◌, ℕ, ◌+◌, ◌^◌, ◌<◌, ◌≤◌, List, [], ◌∷◌, ◌++◌, Option, Some, None, length, get_or, set, refl, ap, sym, subst, ◌∙◌, arith}
+use Rattle.std.proofs.Common.{◌≡◌, ◌≢◌, ℕ, ◌+◌, ◌^◌, ◌<◌, ◌≤◌, false, cond, List, [], ◌∷◌, ◌++◌, Option, Some, None, length, get_or, set, refl, ap, sym, subst, ◌∙◌, arith}
 use Rattle.std.specs.Prelude.{IfSome, nat_le, option_and_then, option_map, unwrap_or}
 use Rattle.std.specs.FinMap.{empty}
 use Rattle.std.specs.Option.{option_map_or}
@@ -19,14 +19,16 @@ use Rattle.load_map.specs.Maps.{map_at}
 use Rattle.load_map.specs.Translation.{placed}
 use Rattle.load_model.specs.Linkage.{linkage_of}
 use Rattle.load_model.specs.Process.{object_at}
+use Rattle.load_model.specs.Unbound.{is_unbound, stub_of, unbound_of}
+use Rattle.elf_model.specs.Filled.{slot_site}
 use Rattle.load_state.specs.Consistent.{IsConsistent}
 use Rattle.load_state.specs.Loaded.{Loaded, placing_of}
-use Rattle.load_state.specs.Slots.{slot_pair_at, slot_pair_of}
+use Rattle.load_state.specs.Slots.{function_now, slot_function, slot_pair_at, slot_pair_of}
 use Rattle.run_model.specs.declared.event.Event.TheVariants.{Arrive}
 use Rattle.run_model.specs.declared.thread.Call.{Call}
 use Rattle.run_model.specs.declared.thread.Thread.{Thread}
 use Rattle.run_model.specs.declared.thread.Turned.TheVariants.{Next}
-use Rattle.run_model.specs.Places.{code_at, got_word}
+use Rattle.placed_code.specs.Places.{code_at, got_word}
 use Rattle.run_model.specs.State.{State, thread_at}
 use Rattle.run_model.specs.Turns.{turn_of}
 use Rattle.call_laws.proofs.ClearEntries.{slot_listed}
@@ -82,18 +84,21 @@ record IsPairOf (l : Loaded) (m k : ℕ) (f : Func) (pair : SlotPair) : Type 0 w
   got' : pair.got ≡ got_word l.modules.process l.modules.maps f.module
   is_code : code_at l.modules.process l.modules.maps pair.code ≡ Some f
 
-pair_of : (l : Loaded) (m k : ℕ) (f : Func) (pair : SlotPair) → IsConsistent l → LeadsTo l m k f → slot_pair_of l.modules.process l.modules.maps m k ≡ Some pair → IsPairOf l m k f pair
-pair_of l m k f pair consistent leads listed =
+pair_of : (l : Loaded) (m k : ℕ) (f : Func) (pair : SlotPair) → IsConsistent l → is_unbound l.modules.process m k ≡ false → LeadsTo l m k f → slot_pair_of l.modules.process l.modules.maps m k ≡ Some pair → IsPairOf l m k f pair
+pair_of l m k f pair consistent bound leads listed =
     let p = placing_of l.modules.process l.modules.maps empty in
-    let at : SlotPair = slot_pair_at (linkage_of l.modules.process) p m leads.object' leads.rel in
+    let at : SlotPair = slot_pair_at (linkage_of l.modules.process) p m leads.object' (unbound_of l.modules.process m) (slot_site k leads.rel) in
+    let function = slot_function (linkage_of l.modules.process) m leads.object' leads.rel in
+    let now : function_now (linkage_of l.modules.process) m leads.object' (unbound_of l.modules.process m) (slot_site k leads.rel) ≡ Some f =
+    ap (λ b. cond b (Some (stub_of m leads.object' leads.rel)) function) bound ∙ leads.leads in
     let both : Some pair ≡ Some at = sym listed ∙ slot_listed l m k leads.object' leads.rel leads.live leads.is_slot in
     let same : pair ≡ at = cc in
     record {
       place' = place_is l m k leads.object' leads.rel leads.live leads.is_slot ∙ ap (λ (s : SlotPair). Some s.addr) (sym same);
-      code' = ap (λ (s : SlotPair). s.code) same ∙ ap (λ (x : Option Func). option_map_or (λ (g : Func). placed (map_at l.modules.maps g.module) g.value) x 0) leads.leads;
-      got' = ap (λ (s : SlotPair). s.got) same ∙ ap (λ (x : Option Func). option_map_or (λ (g : Func). got_of p g.module) x 0) leads.leads ∙ got_is l f.module;
+      code' = ap (λ (s : SlotPair). s.code) same ∙ ap (λ (x : Option Func). option_map_or (λ (g : Func). placed (map_at l.modules.maps g.module) g.value) x 0) now;
+      got' = ap (λ (s : SlotPair). s.got) same ∙ ap (λ (x : Option Func). option_map_or (λ (g : Func). got_of p g.module) x 0) now ∙ got_is l f.module;
       is_code =
-          slots_lead_to_placed_code_lem.function l m k leads.object' leads.rel pair f consistent (record { live = leads.live; is_slot = leads.is_slot; pair = listed }) leads.leads;
+          slots_lead_to_placed_code_lem.function l m k leads.object' leads.rel pair f consistent (record { live = leads.live; is_slot = leads.is_slot; bound = bound; pair = listed }) leads.leads;
     }
 
 -- ---- a moment at which a call begins
@@ -133,7 +138,7 @@ module _ (l : Loaded) (small : l.modules.plan.memory < 2 ^ 32) (limit : ℕ) whe
 
     module _ (f : Func) (leads : LeadsTo s.loaded call.number call.slot f) where
       pair : IsPairOf s.loaded call.number call.slot f held.pair
-      pair = pair_of s.loaded call.number call.slot f held.pair stays.loaded'.consistent leads held.listed
+      pair = pair_of s.loaded call.number call.slot f held.pair stays.loaded'.consistent (stays.bound call.number call.slot) leads held.listed
 
       making : Making limit t thread.cpu c f held.begins 0 s
       making =

@@ -12,7 +12,7 @@ use Rattle.run_model.specs.declared.thread.Call.{Call}
 use Rattle.run_model.specs.declared.thread.TheConstants.{BOUND_CALL}
 use Rattle.run_model.specs.declared.thread.Thread.{Thread}
 use Rattle.run_model.specs.declared.thread.Turned.{Turned}
-use Rattle.run_model.specs.Places.{call_begun}
+use Rattle.run_model.specs.Calls.{call_begun}
 use Rattle.run_model.specs.State.{State, thread_at}
 use Rattle.run_model.specs.Turns.{Taken, advanced, is_complete, turn_of, went, with_calls}
 use Rattle.call_laws.proofs.BegunCalls.{begun}

@@ -3,6 +3,7 @@ use Rattle.std.proofs.Common.{◌≡◌, ℕ, ◌^◌, ◌<◌, List, [], ◌++�
 use Rattle.std.specs.Prelude.{All, Contains}
 use Rattle.std.proofs.lemmas.List.Elements.{All-append, All-contains}
 use Rattle.load_model.specs.declared.plan.MemPlan.{MemPlan}
+use Rattle.load_model.specs.Unbound.{AllBound}
 use Rattle.load_state.specs.Consistent.{IsConsistent}
 use Rattle.load_state.specs.Loaded.{Loaded}
 use Rattle.run_model.specs.declared.event.Event.{Event}
@@ -23,10 +24,10 @@ use Rattle.run_laws.proofs.JournalLines.{Tells, turns-tell}
 use Rattle.run_laws.proofs.LastTurns.{course_ends_by}
 use Rattle.run_laws.proofs.Moments.{StandsAtMoment}
 use Rattle.run_laws.proofs.NowhereCalls.{calls_fault}
-use Rattle.run_laws.proofs.RunStarts.{begin-lives, begin-reached, begin-stays, first-tells, loaded_consistent, loaded_plan}
+use Rattle.run_laws.proofs.RunStarts.{begin-lives, begin-reached, begin-stays, first-tells, loaded_bound, loaded_consistent, loaded_plan}
 
 -- of what is loaded, by any schedule
-module _ (l : Loaded) (limit : ℕ) (schedule : List (ℕ × ℕ)) (entry : ℕ) (consistent : IsConsistent l) (small : l.modules.plan.memory < 2 ^ 32) where
+module _ (l : Loaded) (limit : ℕ) (schedule : List (ℕ × ℕ)) (entry : ℕ) (consistent : IsConsistent l) (bound : AllBound l.modules.process) (small : l.modules.plan.memory < 2 ^ 32) where
   abbrev begin : State
   begin = state_with l (thread_at_entry l entry)
 
@@ -45,20 +46,20 @@ module _ (l : Loaded) (limit : ℕ) (schedule : List (ℕ × ℕ)) (entry : ℕ)
   all-tell : All (Tells limit begin turns) course.events
   all-tell =
       subst (All (Tells limit begin turns)) (sym events-are)
-      (All-append (Tells limit begin turns) first (events_from limit turns begin) (first-tells l entry limit turns)
-      (turns-tell l limit begin turns [] begin (begin-reached l entry limit consistent)))
+      (All-append (Tells limit begin turns) first (events_from limit turns begin) (first-tells l entry limit consistent.fits.some_threads turns)
+      (turns-tell l limit begin turns [] begin (begin-reached l entry limit consistent.fits.some_threads consistent bound)))
 
   tells : (e : Event) → Contains course.events e → Tells limit begin turns e
   tells e there = All-contains (Tells limit begin turns) course.events e all-tell there
 
   stays : StandsAtMoment l limit begin
-  stays = begin-stays l entry limit consistent
+  stays = begin-stays l entry limit consistent.fits.some_threads consistent bound
 
   journal_of : IsJournal l limit schedule begin first course
   journal_of = record {
     turns = turns;
     turns' = refl;
-    ends = course_ends_by limit schedule begin (begin-lives l entry limit) (course_ends limit schedule begin);
+    ends = course_ends_by limit schedule begin (begin-lives l entry limit consistent.fits.some_threads) (course_ends limit schedule begin);
     events' = events-are;
     entered = λ n t m k line. (tells (Enter n t m k) line).calls';
     arrived = λ n t f line. (tells (Arrive n t f) line).calls';
@@ -78,4 +79,4 @@ runs_have_journals_lem job told c small run =
     let thread = thread_at_entry l run.entry in
     let below : l.modules.plan.memory < 2 ^ 32 = subst (λ (p : MemPlan). p.memory < 2 ^ 32) (sym (loaded_plan job.plan told job.program l run.loads)) small in
     subst (IsJournal l job.steps (schedule_of job.turns) (state_with l thread) (first_events l thread)) (sym run.course')
-    (journal_of l job.steps (schedule_of job.turns) run.entry (loaded_consistent job.plan told job.program l run.loads) below)
+    (journal_of l job.steps (schedule_of job.turns) run.entry (loaded_consistent job.plan told job.program l run.loads) (loaded_bound job.plan told job.program l run.loads) below)

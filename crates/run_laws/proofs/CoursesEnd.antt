@@ -1,8 +1,7 @@
 -- Every course ends: the limit comes, where nothing else does.
-use Rattle.std.proofs.Common.{◌≡◌, ℕ, zero, suc, ◌+◌, ◌%◌, ◌<◌, ◌≤◌, true, List, [], ◌∷◌, map, Option, Some, None, refl, ap, sym, subst, arith}
+use Rattle.std.proofs.Common.{◌≡◌, ℕ, zero, suc, ◌+◌, ◌%◌, ◌<◌, ◌≤◌, true, List, [], ◌∷◌, map, length, Option, Some, None, refl, ap, sym, subst, arith}
 use Rattle.std.specs.Prelude.{is_some}
 use Rattle.std.specs.List.{range_with_len}
-use Rattle.load_model.specs.declared.plan.TheConstants.{THREADS}
 use Rattle.run_model.specs.declared.event.Event.{Event}
 use Rattle.run_model.specs.declared.thread.Thread.{Thread}
 use Rattle.run_model.specs.declared.thread.Turned.{Turned}
@@ -53,7 +52,7 @@ abbrev Goes : Option ℕ → State → Type 0
 Goes goes s = (t : ℕ) → goes ≡ Some t → lives s.threads t ≡ true
 
 next_lives : (s : State) (t : ℕ) → Goes (live_from s.threads t) s
-next_lives s t u is = passes (lives s.threads) (map (λ i. (t + i) % THREADS) (range_with_len 0 THREADS)) u is
+next_lives s t u is = passes (lives s.threads) (map (λ i. (t + i) % length s.threads) (range_with_len 0 (length s.threads))) u is
 
 -- at the limit no turn goes on
 last_ends : (answer : Turned) (limit steps after : ℕ) → IsOwn answer → GoesOn answer ((steps < limit) × (after ≡ suc steps)) → limit ≤ steps → HasEnded answer

@@ -14,7 +14,8 @@ use Rattle.run_model.specs.declared.event.Event.TheVariants as event
 use Rattle.run_model.specs.declared.thread.Call.{Call}
 use Rattle.run_model.specs.declared.thread.Thread.{Thread}
 use Rattle.run_model.specs.declared.thread.Turned.{Turned}
-use Rattle.run_model.specs.Places.{call_begun, code_at}
+use Rattle.placed_code.specs.Places.{code_at}
+use Rattle.run_model.specs.Calls.{call_begun}
 use Rattle.run_model.specs.State.{State, thread_at}
 use Rattle.run_model.specs.Turns.{Taken, advanced, arrival, call_events, entering, is_complete, turn_of, went, with_calls}
 use Rattle.a32_machine.specs.Registers.{pc_of}

@@ -2,11 +2,11 @@
 use Rattle.std.proofs.Common.{◌≡◌, ◌≢◌, ℕ, zero, suc, ◌+◌, ◌-◌, ◌*◌, ◌%◌, ◌/◌, ◌<◌, Bool, true, false, List, [], ◌∷◌, ◌++◌, Option, Some, None, length, refl, ap, sym, subst, ◌∙◌, arith, inl, inr}
 use Rattle.std.specs.Prelude.{IfSome, find, map, option_and_then, set}
 use Rattle.std.specs.List.{range_with_len}
+use Rattle.std.proofs.Math.Nat.{add-mul}
 use Rattle.std.proofs.lemmas.Bool.{cases_lt}
 use Rattle.std.proofs.lemmas.Nat.{div-add-mod', mod-mul-add, mod_below}
-use Rattle.std.proofs.lemmas.List.{get_or-set_same, length-set}
+use Rattle.std.proofs.lemmas.List.{get_or-set_same}
 use Rattle.fd_base.proofs.Options.{cond_none_parts}
-use Rattle.load_model.specs.declared.plan.TheConstants.{THREADS}
 use Rattle.run_model.specs.declared.event.Event.{Event}
 use Rattle.run_model.specs.declared.thread.Thread.{Thread}
 use Rattle.run_model.specs.declared.thread.Turned.{Turned}
@@ -23,9 +23,8 @@ use Rattle.run_laws.proofs.TurnCases.{each_turn}
 
 -- ---- some thread lives
 
-pub record SomeLives (s : State) : Type 0 where
-  pub count : length s.threads ≡ THREADS
-  pub some : some_lives s.threads ≡ true
+abbrev pub SomeLives : State → Type 0
+SomeLives s = some_lives s.threads ≡ true
 
 pub lives_among : (xs : List (Option Thread)) (t : ℕ) (thread : Thread) → thread_at xs t ≡ Some thread → some_lives xs ≡ true
 lives_among [] t thread at = absurd cc
@@ -50,27 +49,28 @@ nothing_at p f a (suc k) (suc i) none lt =
     ap (λ j. p (f j)) there ∙ nothing_at p f (a + 1) k i (cond_none_parts (p (f a)) (f a) (find p (map f (range_with_len (a + 1) k))) none).1 (omega arith)
 
 -- each place is some way on from every other
-way_on : (t u : ℕ) → u < 8 → (i : ℕ) × (i < 8) × ((t + i) % 8 ≡ u)
-way_on t u lt =
-    let rest : t % 8 < 8 = mod_below t 8 (omega arith) in
-    let parts : t / 8 * 8 + t % 8 ≡ t = div-add-mod' t 8 in
-    elim (cases_lt u (t % 8)) as (λ _. (i : ℕ) × (i < 8) × ((t + i) % 8 ≡ u)) [
+way_on : (n t u : ℕ) → u < n → (i : ℕ) × (i < n) × ((t + i) % n ≡ u)
+way_on n t u lt =
+    let rest : t % n < n = mod_below t n (omega arith) in
+    let parts : t / n * n + t % n ≡ t = div-add-mod' t n in
+    elim (cases_lt u (t % n)) as (λ _. (i : ℕ) × (i < n) × ((t + i) % n ≡ u)) [
       | inl before ↦
-          let there : t + (u + 8 - t % 8) ≡ (t / 8 + 1) * 8 + u = omega (arith, rest, parts, before) in
-          (u + 8 - t % 8, omega (arith, rest, before), ap (λ n. n % 8) there ∙ mod-mul-add (t / 8 + 1) 8 u lt)
+          let one = add-mul (t / n) 1 n in
+          let there : t + (u + n - t % n) ≡ (t / n + 1) * n + u = omega (arith, rest, parts, before, one) in
+          (u + n - t % n, omega (arith, rest, before), ap (λ m. m % n) there ∙ mod-mul-add (t / n + 1) n u lt)
       | inr behind ↦
-          let there : t + (u - t % 8) ≡ t / 8 * 8 + u = omega (arith, rest, parts, behind) in
-          (u - t % 8, omega (arith, lt), ap (λ n. n % 8) there ∙ mod-mul-add (t / 8) 8 u lt)
+          let there : t + (u - t % n) ≡ t / n * n + u = omega (arith, rest, parts, behind) in
+          (u - t % n, omega (arith, lt), ap (λ m. m % n) there ∙ mod-mul-add (t / n) n u lt)
     ]
 
 some_from : (s : State) (t : ℕ) → SomeLives s → live_from s.threads t ≢ None
-some_from s t h none =
-    let one = one_of s.threads h.some in
-    let below : one.0 < 8 = subst (λ n. one.0 < n) h.count one.1 in
-    let way = way_on t one.0 below in
-    let fails : lives s.threads ((t + (0 + way.0)) % THREADS) ≡ false = nothing_at (lives s.threads) (λ i. (t + i) % THREADS) 0 8 way.0 none way.1 in
+some_from s t some none =
+    let n = length s.threads in
+    let one = one_of s.threads some in
+    let way = way_on n t one.0 one.1 in
+    let fails : lives s.threads ((t + (0 + way.0)) % n) ≡ false = nothing_at (lives s.threads) (λ i. (t + i) % n) 0 n way.0 none way.1 in
     let start : 0 + way.0 ≡ way.0 = omega arith in
-    let same : lives s.threads ((t + (0 + way.0)) % THREADS) ≡ lives s.threads one.0 = ap (λ i. lives s.threads ((t + i) % THREADS)) start ∙ ap (lives s.threads) way.2 in
+    let same : lives s.threads ((t + (0 + way.0)) % n) ≡ lives s.threads one.0 = ap (λ i. lives s.threads ((t + i) % n)) start ∙ ap (lives s.threads) way.2 in
     let never : false ≡ true = sym fails ∙ same ∙ one.2 in
     cc
 
@@ -85,8 +85,8 @@ turn-leaves limit s t h =
           let moved : Thread = with_calls s.loaded.modules.process s.loaded.modules.maps thread in
           let there = get_or-set_same s.threads t (Some moved) None (thread_inside s.threads t was step.at) in
           subst (λ (o : Option State). IfSome o SomeLives) (sym (goes _))
-          (record { count = length-set s.threads t (Some moved) ∙ h.count; some = lives_among (set s.threads t (Some moved)) t moved there });
-      leaves = λ was thread memory step value some. record { count = length-set s.threads t None ∙ h.count; some = some };
+          (lives_among (set s.threads t (Some moved)) t moved there);
+      leaves = λ was thread memory step value some. some;
       ends = λ was thread memory step value. tt;
       exits = λ was thread memory step value. tt;
     })

@@ -12,11 +12,12 @@ use Rattle.run_model.specs.declared.event.Event.{Event}
 use Rattle.run_model.specs.declared.thread.Call.{Call}
 use Rattle.run_model.specs.declared.thread.Thread.{Thread}
 use Rattle.run_model.specs.declared.thread.Turned.{Turned}
-use Rattle.run_model.specs.Places.{call_begun}
+use Rattle.run_model.specs.Calls.{call_begun}
 use Rattle.run_model.specs.State.{State, thread_at}
 use Rattle.run_model.specs.Turns.{Taken, advanced, is_complete, turn_of, went, with_calls}
 use Rattle.call_laws.proofs.CallWalks.{then_turns}
 use Rattle.call_laws.specs.Schedules.{after, turns_from}
+use Rattle.load_model.specs.Unbound.{AllBound}
 use Rattle.run_laws.specs.Journal.{StandsAs}
 use Rattle.run_laws.proofs.TurnCases.{GoesOn, IsStep, each_turn, without_it}
 
@@ -48,6 +49,7 @@ module _ (l : Loaded) (limit : ℕ) where
 
   pub record StandsAtMoment (s : State) : Type 0 where
     pub loaded' : StandsAs l s.loaded
+    pub bound : AllBound s.loaded.modules.process
     pub within : s.steps ≤ limit
     pub threads' : (t : ℕ) (thread : Thread) → thread_at s.threads t ≡ Some thread → IsSettled thread
 
@@ -85,6 +87,7 @@ module _ (l : Loaded) (limit : ℕ) where
         let stays : StandsAtMoment later =
         record {
           loaded' = stands memory step.keeps;
+          bound = h.bound;
           within = omega (arith, step.early);
           threads' = threads-settled (Some moved) (λ other is. let same : moved ≡ other = cc in subst IsSettled same settled);
         } in
@@ -92,7 +95,7 @@ module _ (l : Loaded) (limit : ℕ) where
 
     left-stays : (was thread : Thread) (memory : GuestMemory) → IsStep limit s t was thread memory → StandsAtMoment (without_it limit s t memory)
     left-stays was thread memory step =
-        record { loaded' = stands memory step.keeps; within = omega (arith, step.early); threads' = threads-settled None (λ other is. absurd cc) }
+        record { loaded' = stands memory step.keeps; bound = h.bound; within = omega (arith, step.early); threads' = threads-settled None (λ other is. absurd cc) }
 
     pub turn-stays : IfSome (after (turn_of limit s t)) StandsAtMoment
     turn-stays =

@@ -1,5 +1,5 @@
 -- A call through a slot that leads to no function goes to address 0, where nothing is mapped.
-use Rattle.std.proofs.Common.{◌≡◌, ℕ, suc, ◌+◌, ◌*◌, ◌^◌, ◌<◌, ◌≤◌, false, cond, List, [], ◌∷◌, Option, Some, None, Err, refl, ap, sym, subst, ◌∙◌, append-nil, arith}
+use Rattle.std.proofs.Common.{◌≡◌, ℕ, suc, ◌+◌, ◌^◌, ◌<◌, ◌≤◌, false, cond, List, [], ◌∷◌, Option, Some, None, Err, refl, ap, sym, subst, ◌∙◌, append-nil, arith}
 use Rattle.std.specs.Prelude.{filter, map, nat_le}
 use Rattle.std.specs.FinMap.{empty}
 use Rattle.std.specs.List.{flat_map}
@@ -17,22 +17,24 @@ use Rattle.fd_base.specs.Ranges.{is_in}
 use Rattle.guest_mem.specs.declared.kind.Access.TheVariants as access
 use Rattle.guest_mem.specs.Accesses.{fetch_of, read_refusal}
 use Rattle.guest_mem.specs.Memory.{GuestMemory, kind_at}
-use Rattle.load_laws.proofs.AddressesApart.{low_above}
+use Rattle.load_model.proofs.PlanParts.{low_above}
 use Rattle.load_map.specs.declared.entry.MapEntry.{MapEntry}
 use Rattle.load_map.specs.Maps.{map_at}
 use Rattle.load_model.specs.declared.words.SlotPair.{SlotPair}
 use Rattle.load_model.specs.Image.{place_of}
+use Rattle.load_model.specs.Unbound.{is_unbound, stub_of, unbound_of}
+use Rattle.elf_model.specs.Filled.{slot_site}
 use Rattle.load_model.specs.Layout.{LiesAt, fixed_kind}
 use Rattle.load_model.specs.Linkage.{linkage_of}
-use Rattle.load_model.specs.Plan.{high_of, low_of}
+use Rattle.load_model.specs.Plan.{high_of, low_of, slots_end}
 use Rattle.load_state.specs.Consistent.{IsConsistent, IsEntryOf}
 use Rattle.load_state.specs.Loaded.{Loaded, in_memory, placing_of}
-use Rattle.load_state.specs.Slots.{slot_pair_at, slot_pair_of}
+use Rattle.load_state.specs.Slots.{slot_function, slot_pair_at, slot_pair_of}
 use Rattle.run_model.specs.declared.event.Stop.TheVariants as stop
 use Rattle.run_model.specs.declared.thread.Call.{Call}
 use Rattle.run_model.specs.declared.thread.Thread.{Thread}
 use Rattle.run_model.specs.Instructions.{obeyed_after, obeyed_by}
-use Rattle.run_model.specs.Places.{code_at}
+use Rattle.placed_code.specs.Places.{code_at}
 use Rattle.run_model.specs.State.{State}
 use Rattle.run_model.specs.Turns.{Taken, advanced, arrival, call_events, gone_by, is_complete, stopped, turn_of, turned_at}
 use Rattle.run_model.specs.State.{thread_at}
@@ -52,15 +54,12 @@ use Rattle.run_laws.proofs.Moments.{StandsAtMoment, turns-stay}
 
 -- ---- nothing is mapped at address 0
 
-positive : (d low : ℕ) → 12288 + 8 * d ≤ low → 0 < low
-positive d low above = omega arith
-
 above_zero : (a b : ℕ) → 0 < a → a ≤ b → 0 < b
 above_zero a b pos le = omega arith
 
 module _ (l : Loaded) (h : IsConsistent l) where
   low_positive : 0 < low_of l.modules.plan
-  low_positive = positive l.modules.plan.descriptors (low_of l.modules.plan) (low_above l.modules.plan)
+  low_positive = let above : slots_end l.modules.plan ≤ low_of l.modules.plan = low_above l.modules.plan in omega arith
 
   nothing_fixed : fixed_kind l.modules.plan 0 ≡ None
   nothing_fixed =
@@ -113,15 +112,20 @@ record IsZeroPair (l : Loaded) (pair : SlotPair) : Type 0 where
   zero' : pair.code ≡ 0
   no_code : code_at l.modules.process l.modules.maps pair.code ≡ None
 
-pair_nowhere : (l : Loaded) (m k : ℕ) (pair : SlotPair) → IsConsistent l → LeadsNowhere l m k → slot_pair_of l.modules.process l.modules.maps m k ≡ Some pair → IsZeroPair l pair
-pair_nowhere l m k pair consistent leads listed =
+pair_nowhere : (l : Loaded) (m k : ℕ) (pair : SlotPair) → IsConsistent l → is_unbound l.modules.process m k ≡ false → LeadsNowhere l m k → slot_pair_of l.modules.process l.modules.maps m k ≡ Some pair → IsZeroPair l pair
+pair_nowhere l m k pair consistent bound leads listed =
     let p = placing_of l.modules.process l.modules.maps empty in
-    let at : SlotPair = slot_pair_at (linkage_of l.modules.process) p m leads.object' leads.rel in
+    let at : SlotPair = slot_pair_at (linkage_of l.modules.process) p m leads.object' (unbound_of l.modules.process m) (slot_site k leads.rel) in
+    let function = slot_function (linkage_of l.modules.process) m leads.object' leads.rel in
+    let stub : Option Func = Some (stub_of m leads.object' leads.rel) in
     let both : Some pair ≡ Some at = sym listed ∙ slot_listed l m k leads.object' leads.rel leads.live leads.is_slot in
     let same : pair ≡ at = cc in
     record {
-      zero' = ap (λ (s : SlotPair). s.code) same ∙ ap (λ (x : Option Func). option_map_or (place_of p) x 0) leads.nowhere;
-      no_code = slots_lead_to_placed_code_lem.nothing l m k leads.object' leads.rel pair consistent (record { live = leads.live; is_slot = leads.is_slot; pair = listed }) leads.nowhere;
+      zero' =
+          ap (λ (s : SlotPair). s.code) same
+          ∙ ap (λ b. option_map_or (place_of p) (cond b stub function) 0) bound
+          ∙ ap (λ (x : Option Func). option_map_or (place_of p) x 0) leads.nowhere;
+      no_code = slots_lead_to_placed_code_lem.nothing l m k leads.object' leads.rel pair consistent (record { live = leads.live; is_slot = leads.is_slot; bound = bound; pair = listed }) leads.nowhere;
     }
 
 -- ---- a moment at which such a call begins
@@ -135,7 +139,7 @@ module _ (l : Loaded) (small : l.modules.plan.memory < 2 ^ 32) (limit : ℕ) (s 
   bound = c l small limit s stays t thread call enters clear
 
   zeros : IsZeroPair s.loaded its.pair
-  zeros = pair_nowhere s.loaded call.number call.slot its.pair stays.loaded'.consistent leads its.listed
+  zeros = pair_nowhere s.loaded call.number call.slot its.pair stays.loaded'.consistent (stays.bound call.number call.slot) leads its.listed
 
   -- the pc after the fourth step
   at_end : (m : GuestMemory) → pc_of (cpu_after thread.cpu bound 4) ≡ bound.function

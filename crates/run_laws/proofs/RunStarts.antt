@@ -2,39 +2,44 @@
 use Rattle.std.proofs.Common.{◌≡◌, ℕ, zero, suc, ◌<◌, ◌≤◌, Bool, true, false, cond, List, [], ◌∷◌, Option, Some, None, length, replicate, refl, sym, ap, subst, ◌∙◌, arith, inl, inr}
 use Rattle.std.specs.Prelude.{All, map}
 use Rattle.std.specs.Option.{option_to_list}
+use Rattle.std.proofs.lemmas.List.{get_or-set_same, length-replicate}
 use Rattle.std.proofs.lemmas.List.Elements.{All-append, All-cons, All-map, All-nil}
 use Rattle.fd_base.specs.Fetched.{Files}
 use Rattle.load_laws.proofs.ConsistentAfter.{loads_keep_lem}
+use Rattle.load_laws.proofs.BoundPrograms.{programs_bound_lem}
 use Rattle.load_laws.proofs.NewLoaders.{new_is_consistent_lem}
+use Rattle.load_model.specs.Unbound.{AllBound}
 use Rattle.load_outcomes.proofs.EachCommit.{files_taken}
 use Rattle.load_model.specs.declared.module.Live.{Live}
 use Rattle.load_model.specs.declared.plan.MemPlan.{MemPlan}
-use Rattle.load_model.specs.declared.plan.TheConstants.{THREADS}
 use Rattle.load_state.specs.Consistent.{IsConsistent}
 use Rattle.load_state.specs.Loaded.{Loaded, LoadedModules}
 use Rattle.run_model.specs.declared.event.Event.{Event}
 use Rattle.run_model.specs.declared.event.Event.TheVariants as event
 use Rattle.run_model.specs.declared.thread.Call.{Call}
 use Rattle.run_model.specs.declared.thread.Thread.{Thread}
-use Rattle.run_model.specs.Places.{call_begun}
+use Rattle.run_model.specs.Calls.{call_begun}
 use Rattle.run_model.specs.Start.{first_events, load_events, load_events_from, load_events_of, state_with}
 use Rattle.elf_model.specs.Inits.{has_inits}
 use Rattle.run_model.specs.State.{State, thread_at}
 use Rattle.run_model.specs.Turns.{entering}
 use Rattle.proc_run.specs.BegunProcess.{thread_at_entry}
-use Rattle.load_state.specs.ProgramLoad.{IsProgramLoaded}
+use Rattle.load_state.specs.ProgramLoad.{IsProgramLoaded, eager}
 use Rattle.run_laws.specs.Moments.{Enters}
 use Rattle.run_laws.proofs.CallHistories.{HasBegun, IsReached, contains_option, new_begins, new_length, place_cases}
 use Rattle.run_laws.proofs.JournalLines.{Tells}
-use Rattle.run_laws.proofs.LastTurns.{SomeLives}
+use Rattle.run_laws.proofs.LastTurns.{SomeLives, lives_among}
 use Rattle.run_laws.proofs.Moments.{IsOwn, IsSettled, StandsAtMoment, each_option, lives_after_set}
 
 -- ---- what is loaded
 
 pub loaded_consistent : (plan : MemPlan) (told : Files) (name : List ℕ) (l : Loaded) → IsProgramLoaded plan told name l → IsConsistent l
 loaded_consistent plan told name l h =
-    loads_keep_lem h.start l (Some told) name false h.group (new_is_consistent_lem plan h.start h.fresh) h.planned
-    (files_taken h.start.modules told name false h.group h.planned) h.committed
+    loads_keep_lem h.start l (Some told) name eager h.group (new_is_consistent_lem plan h.start h.fresh) h.planned
+    (files_taken h.start.modules told name eager h.group h.planned) h.committed
+
+pub loaded_bound : (plan : MemPlan) (told : Files) (name : List ℕ) (l : Loaded) → IsProgramLoaded plan told name l → AllBound l.modules.process
+loaded_bound = programs_bound_lem
 
 pub loaded_plan : (plan : MemPlan) (told : Files) (name : List ℕ) (l : Loaded) → IsProgramLoaded plan told name l → l.modules.plan ≡ plan
 loaded_plan plan told name l h = h.committed.plan' ∙ ap (λ (m : LoadedModules). m.plan) h.fresh.starts
@@ -46,7 +51,13 @@ nobody zero u thread at = absurd cc
 nobody (suc n) zero thread at = absurd cc
 nobody (suc n) (suc u) thread at = nobody n u thread at
 
-module _ (l : Loaded) (entry limit : ℕ) where
+module _ (l : Loaded) (entry limit : ℕ) (some : 0 < l.modules.plan.threads) where
+  abbrev places : List (Option Thread)
+  places = replicate l.modules.plan.threads None
+
+  has_place : 0 < length places
+  has_place = let count : length places ≡ l.modules.plan.threads = length-replicate {A = Option Thread} l.modules.plan.threads None in omega arith
+
   abbrev first : Thread
   first = thread_at_entry l entry
 
@@ -59,20 +70,24 @@ module _ (l : Loaded) (entry limit : ℕ) where
     calls' = each_option (IsOwn l limit first.cpu) (call_begun l.modules.process l.modules.maps first.cpu) (λ call is new. is);
   }
 
-  pub begin-stays : IsConsistent l → StandsAtMoment l limit begin
-  begin-stays consistent = record {
+  pub begin-stays : IsConsistent l → AllBound l.modules.process → StandsAtMoment l limit begin
+  begin-stays consistent bound = record {
     loaded' = record { consistent = consistent; plan' = refl; process' = refl; maps' = refl };
+    bound = bound;
     within = omega arith;
-    threads' = λ u thread at. elim (lives_after_set (replicate THREADS None) 0 u (Some first) thread at) as (λ _. IsSettled l limit thread) [
+    threads' = λ u thread at. elim (lives_after_set places 0 u (Some first) thread at) as (λ _. IsSettled l limit thread) [
       | inl is ↦ let same : first ≡ thread = cc in subst (IsSettled l limit) same first-settled
-      | inr was ↦ absurd (nobody THREADS u thread was)
+      | inr was ↦ absurd (nobody l.modules.plan.threads u thread was)
     ];
   }
+
+  first_there : thread_at begin.threads 0 ≡ Some first
+  first_there = get_or-set_same places 0 (Some first) None has_place
 
   -- the call that begins at the entry point
   first-enters : (call : Call) → call_begun l.modules.process l.modules.maps first.cpu ≡ Some call → Enters begin 0 first call
   first-enters call is = record {
-    new = record { lives = refl; among = contains_option (call_begun l.modules.process l.modules.maps first.cpu) call is; none_done = new_begins l first call is };
+    new = record { lives = first_there; among = contains_option (call_begun l.modules.process l.modules.maps first.cpu) call is; none_done = new_begins l first call is };
     begun = is;
   }
 
@@ -96,20 +111,19 @@ module _ (l : Loaded) (entry limit : ℕ) where
       let same : first ≡ thread = cc in
       subst (λ (x : Thread). All (HasBegun limit begin [] u) x.calls) same (subst (λ (v : ℕ). All (HasBegun limit begin [] v) first.calls) (sym at) first-histories)
 
-  pub begin-reached : IsConsistent l → IsReached l limit begin [] begin
-  begin-reached consistent = record {
+  pub begin-reached : IsConsistent l → AllBound l.modules.process → IsReached l limit begin [] begin
+  begin-reached consistent bound = record {
     reached = refl;
-    stands = begin-stays consistent;
+    stands = begin-stays consistent bound;
     histories = λ u thread at.
-        let inside : 0 < 8 = omega arith in
-        elim (place_cases (replicate THREADS None) 0 u (Some first) thread inside at) as (λ _. All (HasBegun limit begin [] u) thread.calls) [
+        elim (place_cases places 0 u (Some first) thread has_place at) as (λ _. All (HasBegun limit begin [] u) thread.calls) [
           | inl here ↦ first-kept u thread here.0 here.1
-          | inr there ↦ absurd (nobody THREADS u thread there.1)
+          | inr there ↦ absurd (nobody l.modules.plan.threads u thread there.1)
         ];
   }
 
   pub begin-lives : SomeLives begin
-  begin-lives = record { count = refl; some = refl }
+  begin-lives = lives_among begin.threads 0 first first_there
 
   -- ---- the events before the first step
 

@@ -7,7 +7,7 @@ use Rattle.load_state.specs.Loaded.{Loaded}
 use Rattle.load_state.specs.ProgramLoad.{IsProgramLoaded}
 use Rattle.run_model.specs.declared.job.Job.{Job}
 use Rattle.run_model.specs.Courses.{Course}
-use Rattle.run_model.specs.Places.{entry_point}
+use Rattle.placed_code.specs.Places.{entry_point}
 use Rattle.run_model.specs.Start.{run_of}
 use Rattle.proc_run.specs.RunEnds.{IsRun}
 use Rattle.proc_run.specs.RunParts.{schedule_of}

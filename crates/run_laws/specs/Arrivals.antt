@@ -15,7 +15,7 @@ use Rattle.load_state.specs.Slots.{slot_function}
 use Rattle.run_model.specs.declared.event.Event.TheVariants.{Arrive}
 use Rattle.run_model.specs.declared.thread.Call.{Call}
 use Rattle.run_model.specs.declared.thread.Thread.{Thread}
-use Rattle.run_model.specs.Places.{got_word}
+use Rattle.placed_code.specs.Places.{got_word}
 use Rattle.run_model.specs.State.{State, thread_at}
 use Rattle.call_laws.specs.Schedules.{events_from}
 

@@ -5,7 +5,8 @@ use Rattle.a32_machine.specs.Registers.{pc_of}
 use Rattle.run_model.specs.declared.thread.Call.{Call}
 use Rattle.run_model.specs.declared.thread.Thread.{Thread}
 use Rattle.run_model.specs.declared.thread.Turned.{Turned}
-use Rattle.run_model.specs.Places.{call_begun, code_at}
+use Rattle.placed_code.specs.Places.{code_at}
+use Rattle.run_model.specs.Calls.{call_begun}
 use Rattle.run_model.specs.State.{State, thread_at}
 use Rattle.run_model.specs.Turns.{turn_of}
 use Rattle.call_laws.specs.Schedules.{after, own_turns, turns_from}

@@ -1,7 +1,7 @@
+pub mod Calls
 pub mod Courses
 pub mod Instructions
 pub mod Numbers
-pub mod Places
 pub mod Report
 pub mod Services
 pub mod Start

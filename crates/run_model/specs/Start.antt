@@ -6,13 +6,13 @@ use Rattle.a32_machine.specs.declared.cpu.Cpu.{Cpu}
 use Rattle.load_model.specs.declared.layout.TheConstants.{PROCESS_END}
 use Rattle.load_model.specs.declared.module.Live.{Live}
 use Rattle.load_model.specs.declared.module.SymbolicProcess.{SymbolicProcess}
-use Rattle.load_model.specs.declared.plan.TheConstants.{THREADS}
 use Rattle.load_state.specs.Loaded.{Loaded}
 use Rattle.run_model.specs.declared.event.Event.{Event}
 use Rattle.run_model.specs.declared.event.Event.TheVariants.{Load, Skipped}
 use Rattle.run_model.specs.declared.thread.Thread.{Thread}
 use Rattle.run_model.specs.Courses.{Course, before, course_of}
-use Rattle.run_model.specs.Places.{call_begun, got_word}
+use Rattle.placed_code.specs.Places.{got_word}
+use Rattle.run_model.specs.Calls.{call_begun}
 use Rattle.run_model.specs.State.{State}
 use Rattle.run_model.specs.Turns.{entering}
 
@@ -43,7 +43,7 @@ abbrev pub first_thread : Loaded → Cpu → Thread
 first_thread l cpu = record { cpu = cpu; refusal = 0; calls = option_to_list (call_begun l.modules.process l.modules.maps cpu) }
 
 abbrev pub state_with : Loaded → Thread → State
-state_with l thread = record { loaded = l; threads = set (replicate THREADS None) 0 (Some thread); steps = 0 }
+state_with l thread = record { loaded = l; threads = set (replicate l.modules.plan.threads None) 0 (Some thread); steps = 0 }
 
 -- ---- the run
 

@@ -1,13 +1,12 @@
 -- A process that runs: what is loaded, its threads, and how many steps are done.
-use Rattle.std.specs.Prelude.{ℕ, ◌+◌, ◌%◌, Bool, List, find, map, get_or, Option, None, is_some}
+use Rattle.std.specs.Prelude.{ℕ, ◌+◌, ◌%◌, Bool, List, find, map, length, get_or, Option, None, is_some}
 use Rattle.std.specs.List.{list_any, range_with_len}
-use Rattle.load_model.specs.declared.plan.TheConstants.{THREADS}
 use Rattle.load_state.specs.Loaded.{Loaded}
 use Rattle.run_model.specs.declared.thread.Thread.{Thread}
 
 pub record State : Type 0 where
   pub loaded : Loaded
-  -- by number
+  -- by number, each with its place
   pub threads : List (Option Thread)
   pub steps : ℕ
 
@@ -22,4 +21,4 @@ some_lives threads = list_any is_some threads
 
 -- the first live thread from a number on, in cyclic order
 abbrev pub live_from : List (Option Thread) → ℕ → Option ℕ
-live_from threads t = find (lives threads) (map (λ i. (t + i) % THREADS) (range_with_len 0 THREADS))
+live_from threads t = find (lives threads) (map (λ i. (t + i) % length threads) (range_with_len 0 (length threads)))

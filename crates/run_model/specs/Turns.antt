@@ -19,7 +19,8 @@ use Rattle.run_model.specs.declared.thread.Thread.{Thread}
 use Rattle.run_model.specs.declared.thread.Turned.{Turned}
 use Rattle.run_model.specs.declared.thread.Turned.TheVariants as turned
 use Rattle.run_model.specs.Instructions.{Obeyed, obeyed_by}
-use Rattle.run_model.specs.Places.{call_begun, code_at}
+use Rattle.placed_code.specs.Places.{code_at}
+use Rattle.run_model.specs.Calls.{call_begun}
 use Rattle.run_model.specs.State.{State, some_lives, thread_at}
 
 -- how a turn ends, what it leaves, and its events

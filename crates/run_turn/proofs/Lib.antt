@@ -1,6 +1,4 @@
 pub mod CallsInTurn
 mod EmptiedPlaces
-mod EmptyZips
 pub mod MappedBytes
-mod ModulesPlaced
 pub mod StopsKeep

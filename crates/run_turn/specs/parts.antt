@@ -1,6 +1,4 @@
 -- What contracts inside the program say: the contract of the top call cites none of it.
 pub mod CallsInProgress
-pub mod PlacedLaws
-pub mod PlacedModules
 pub mod Remainder
 pub mod StopLaws

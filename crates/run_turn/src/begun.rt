@@ -1,14 +1,13 @@
 //! Calls that begin.
 
 ghost use Rattle.std.specs.Prelude.{◌≡◌, IfSome};
-ghost use Rattle.run_model.specs.Places as spec;
-ghost use Rattle.run_turn.specs.parts.PlacedModules.{ArePlaced};
+ghost use Rattle.placed_code.specs.parts.PlacedModules.{ArePlaced};
+ghost use Rattle.run_model.specs.Calls as spec;
 ghost use Rattle.run_turn.specs.parts.CallsInProgress.{IsInProgress};
 
-use crate::code::{code_at, got_word};
 use a32_machine::Cpu;
 use load_model::{MapEntries, SymbolicProcess};
-use plt_code::slot_entered;
+use placed_code::{entry_at, got_word};
 use run_model::{BOUND_CALL, Call};
 
 /// The call that begins with this cpu: its pc is at a placed entry of a slot, and r9 is the GOT of the entry's module.
@@ -18,15 +17,13 @@ pub fn call_begun(process: &SymbolicProcess, maps: &[MapEntries], cpu: &Cpu) -> 
     ensures progress { IfSome result IsInProgress }
     ensures none_done { IfSome result (λ call. call.done ≡ 0) }
 {
-    let place = code_at(process, maps, cpu.r[15])?;
-    let object = process.object_at(place.module)?;
-    let slot = slot_entered(object, place.value)?;
-    if cpu.r[9] != got_word(process, maps, place.module) {
+    let entry = entry_at(process, maps, cpu.r[15])?;
+    if cpu.r[9] != got_word(process, maps, entry.module) {
         return None;
     }
     Some(Call {
-        number: place.module,
-        slot,
+        number: entry.module,
+        slot: entry.slot,
         length: BOUND_CALL,
         done: 0,
         begin: *cpu,

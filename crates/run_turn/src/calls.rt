@@ -2,15 +2,16 @@
 
 ghost use Rattle.std.specs.Prelude.{◌≡◌, ◌<◌, ◌++◌, OnOk, All, filter, map, not};
 ghost use Rattle.std.specs.List.{flat_map};
-ghost use Rattle.run_model.specs.Places as places;
+ghost use Rattle.placed_code.specs.Places.{code_at};
+ghost use Rattle.placed_code.specs.parts.PlacedModules.{ArePlaced};
 ghost use Rattle.run_model.specs.Turns as spec;
-ghost use Rattle.run_turn.specs.parts.PlacedModules.{ArePlaced};
 ghost use Rattle.run_turn.specs.parts.CallsInProgress.{BeganInTurn};
 
+use crate::begun::call_begun;
 use crate::placed::{PlacedModules, Step};
-use crate::{call_begun, code_at};
 use elf_model::Func;
 use fd_base::{Memory, Seq};
+use placed_code::code_at;
 use run_model::{Call, Calls, Event, Thread};
 
 /// Events in order.
@@ -61,7 +62,7 @@ fn advance(
     requires calls { BeganInTurn calls.old }
     ensures left { OnOk result (calls.new ≡ filter (λ call. not (spec.is_complete call)) (map spec.advanced calls.old)) }
     ensures events { OnOk result (events.new ≡ events.old
-        ++ flat_map (λ call. spec.arrival done.step done.thread (places.code_at modules.entry.now.process.now modules.entry.now.maps.now pc))
+        ++ flat_map (λ call. spec.arrival done.step done.thread (code_at modules.entry.now.process.now modules.entry.now.maps.now pc))
         (filter spec.is_complete (map spec.advanced calls.old))) }
     ensures calls { OnOk result (BeganInTurn calls.new) }
     ensures begun { OnOk result (All (λ call. 0 < call.done) calls.new) }

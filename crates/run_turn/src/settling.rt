@@ -2,12 +2,12 @@
 
 ghost use Rattle.std.specs.Prelude.{◌≡◌, ◌+◌, [], ◌∷◌, ◌++◌, ◌<◌, ◌^◌, set, IfOk, OnOk, All, None, Some, length, map};
 ghost use Rattle.load_state.specs.Loaded.{Loaded};
+ghost use Rattle.placed_code.specs.parts.PlacedModules.{ArePlaced};
 ghost use Rattle.run_model.specs.declared.event.Event.TheVariants as event;
 ghost use Rattle.run_model.specs.declared.thread.Thread.{Thread};
 ghost use Rattle.run_model.specs.declared.thread.Turned.TheVariants as turned;
 ghost use Rattle.run_model.specs.State.{some_lives, thread_at};
 ghost use Rattle.run_model.specs.Turns as spec;
-ghost use Rattle.run_turn.specs.parts.PlacedModules.{ArePlaced};
 ghost use Rattle.run_turn.specs.parts.CallsInProgress.{AreInProgress};
 ghost use Rattle.run_turn.specs.parts.Remainder.{IsAt, Left, state_with};
 

@@ -2,7 +2,9 @@
 use Rattle.std.proofs.Common.{◌≡◌, ℕ, zero, suc, ◌+◌, ◌-◌, ◌<◌, ◌≤◌, Option, None, List, [], ◌∷◌, ◌++◌, length, set, get_or, replicate, refl, sym, ap, ◌∙◌, arith, append_assoc, length-append, length-set}
 use Rattle.std.proofs.lemmas.List.{set-append_left, set-append_right, set-get_or}
 use Rattle.symbol_scope.specs.declared.table.Table.{Table}
+use Rattle.symbol_scope.specs.parts.Needs.{table_at}
 use Rattle.symbol_scope.specs.parts.Slots.{filled_up}
+use Rattle.symbol_scope.proofs.Finding.{table_at-behind}
 
 pub filled_up_push : (slots : List (Option Table)) → length slots < 64 → filled_up (slots ++ None ∷ []) ≡ filled_up slots
 filled_up_push slots lt =
@@ -29,3 +31,14 @@ filled_up-past slots n le =
     let j : ℕ = n - length slots in
     let same : set empty j None ≡ empty = ap (set empty j) (sym (none_at (64 - length slots) j)) ∙ set-get_or empty j None in
     sym (set-append_right slots empty (length slots) n None refl le ∙ ap (λ l. slots ++ l) same)
+
+-- ---- what stands in a slot
+
+slot_read : (slots : List (Option Table)) (n : ℕ) → get_or slots n None ≡ table_at slots n
+slot_read [] n = refl
+slot_read (slot ∷ slots) zero = refl
+slot_read (slot ∷ slots) (suc n) = slot_read slots n
+
+-- the table of a number, which is none behind the slots
+pub table_read : (slots : List (Option Table)) (n : ℕ) → get_or slots n None ≡ table_at (filled_up slots) n
+table_read slots n = slot_read slots n ∙ sym (table_at-behind slots (64 - length slots) n)

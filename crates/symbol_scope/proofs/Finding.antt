@@ -15,7 +15,7 @@ use Rattle.std.proofs.lemmas.Iterator.Adapters.{position_from-zero}
 use Rattle.elf_model.specs.declared.object.Symbol.{Symbol}
 use Rattle.symbol_scope.specs.declared.table.Table.{Table}
 use Rattle.symbol_scope.specs.Exported.{is_exported, exports_as, first_export}
-use Rattle.symbol_scope.specs.parts.Exports.{export_entry, export_entries, exports_of}
+use Rattle.symbol_scope.specs.Exports.{export_entry, export_entries, exports_of}
 use Rattle.std.specs.List.{find as first_of}
 use Rattle.std.proofs.lemmas.List.Elements.{All-cons, All-head, All-tail}
 use Rattle.symbol_scope.specs.declared.tables.Found.{Found}

@@ -1,7 +1,5 @@
 -- What contracts inside the program say: the contract of the top call cites none of it.
-pub mod Exports
 pub mod Laws
 pub mod Marks
 pub mod Needs
 pub mod Slots
-pub mod Table

@@ -6,7 +6,7 @@ ghost use Rattle.std.specs.Cmp.Lexicographic.{slice_cmp};
 ghost use Rattle.std.specs.Str.{bytes_eq};
 ghost use Rattle.std.specs.FinMap.{find, get};
 ghost use Rattle.symbol_scope.specs.Exported.{is_exported};
-ghost use Rattle.symbol_scope.specs.parts.Exports.{export_entry, export_entries, exports_of};
+ghost use Rattle.symbol_scope.specs.Exports.{export_entry, export_entries, exports_of};
 
 use elf_model::constants::{
     STB_GLOBAL, STB_WEAK, STT_FILE, STT_SECTION, STV_DEFAULT, STV_PROTECTED,
@@ -45,7 +45,7 @@ pub struct Exports {
 
 impl Model for Exports {
     ghost use Rattle.std.specs.FinMap.{from_entries};
-    ghost use Rattle.symbol_scope.specs.parts.Exports.{ExportMap, export_map_code};
+    ghost use Rattle.symbol_scope.specs.Exports.{ExportMap, export_map_code};
 
     ghost Value = { ExportMap };
 

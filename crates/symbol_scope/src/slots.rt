@@ -1,6 +1,6 @@
 //! Tables by the numbers of their modules. Past the last slot there is no table.
 
-ghost use Rattle.std.specs.Prelude.{◌≡◌, ◌≤◌, ◌<◌, length, slice_set, IfSome, OnOk};
+ghost use Rattle.std.specs.Prelude.{◌≡◌, ◌≤◌, ◌<◌, None, length, slice_index_or, slice_set, IfSome, OnOk};
 ghost use Rattle.std.specs.Option.{option_copied};
 ghost use Rattle.symbol_scope.specs.parts.Slots.{filled_up};
 ghost use Rattle.symbol_scope.specs.parts.Needs.{is_table_named, number_named, table_at, needed_by, export_in};
@@ -15,6 +15,7 @@ pub(crate) fn make_room(slots: &mut Vec<Option<Table>>, len: usize) -> Result<()
     requires small { len ≤ 64 }
     ensures room { OnOk result (len ≤ length slots.new.items) }
     ensures within { length slots.new.items ≤ 64 }
+    ensures grows { length slots.old.items ≤ length slots.new.items }
     ensures stays { filled_up slots.new.items ≡ filled_up slots.old.items }
 {
     while slots.len() < len {
@@ -29,6 +30,15 @@ pub(crate) fn put_slot(slots: &mut Vec<Option<Table>>, number: usize, slot: Opti
     ensures { slots.new.items ≡ slice_set slots.old.items number slot }
 {
     slots[number] = slot;
+}
+
+/// Takes out what stands in a slot.
+pub(crate) fn take_slot(slots: &mut Vec<Option<Table>>, number: usize) -> Option<Table>
+    requires { number < length slots.old.items }
+    ensures value { result ≡ slice_index_or slots.old.items number None }
+    ensures after { slots.new.items ≡ slice_set slots.old.items number None }
+{
+    slots[number].take()
 }
 
 pub(crate) fn table_at(slots: &[Option<Table>], number: u32) -> Option<&Table>

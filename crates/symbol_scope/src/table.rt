@@ -20,7 +20,7 @@ pub struct Table {
 
 impl Table {
     ghost use Rattle.std.specs.Prelude.{◌≡◌, ◌≤◌, ◌^◌, length, IfOk};
-    ghost use Rattle.symbol_scope.specs.parts.Table.{table_of};
+    ghost use Rattle.symbol_scope.specs.Table.{table_of};
 
     /// The table of a module of this name.
     pub fn of(alloc: Global, name: &Name, o: &Object) -> Result<Table, Memory>

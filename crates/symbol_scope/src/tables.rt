@@ -5,7 +5,7 @@ ghost use Rattle.symbol_scope.specs.Definition.{first_definition};
 ghost use Rattle.symbol_scope.specs.parts.Needs.{export_in};
 
 use crate::closing::closure_of;
-use crate::slots::{export_in, make_room, put_slot};
+use crate::slots::{export_in, make_room, put_slot, take_slot};
 use crate::table::Table;
 use elf_model::Object;
 use fd_base::{Memory, Name, Numbers, Seq};
@@ -24,7 +24,8 @@ pub struct Found {
     pub symbol: u32,
 }
 
-/// The tables of modules, by their numbers.
+/// The tables of modules, by their numbers. Contracts see them, and for how many numbers from 0 on a place is there, into
+/// which a table can be put without memory.
 #[derive(Drop)]
 pub struct Tables {
     slots: Vec<Option<Table>>,
@@ -32,13 +33,13 @@ pub struct Tables {
 
 impl Model for Tables {
     ghost use Rattle.std.specs.Prelude.{◌≤◌, length};
-    ghost use Rattle.symbol_scope.specs.parts.Slots.{Slots, slots_code, filled_up};
+    ghost use Rattle.symbol_scope.specs.parts.Slots.{TableSpace, table_space_code, filled_up};
 
-    ghost Value = { Slots };
+    ghost Value = { TableSpace };
 
-    ghost coded = { slots_code };
+    ghost coded = { table_space_code };
 
-    ghost view = { λ t. filled_up t.slots.items };
+    ghost view = { λ t. record { slots = filled_up t.slots.items; room = length t.slots.items } };
 
     ghost invariant = { λ t. length t.slots.items ≤ 64 };
 }
@@ -47,25 +48,26 @@ impl Tables {
     ghost use Rattle.std.specs.Prelude.{◌≡◌, ◌↔◌, ◌≤◌, ◌<◌, ◌^◌, [], ◌∷◌, length, replicate, slice_set, Some, None, nat_eq, All, IfOk, OnOk, OnErr, IsNone};
     ghost use Rattle.symbol_scope.specs.Closure.{IsClosure};
     ghost use Rattle.symbol_scope.specs.Definition.{first_definition};
-    ghost use Rattle.symbol_scope.specs.parts.Needs.{export_in, needs};
-    ghost use Rattle.symbol_scope.specs.parts.Table.{table_of};
+    ghost use Rattle.symbol_scope.specs.parts.Needs.{export_in, needs, table_at};
+    ghost use Rattle.symbol_scope.specs.Table.{table_of};
 
     /// No module has a table. Takes no memory.
     pub fn new(alloc: Global) -> Tables
-        ensures { result ≡ replicate 64 None }
+        ensures { result ≡ record { slots = replicate 64 None; room = 0 } }
     {
         Tables {
             slots: Vec::new(alloc),
         }
     }
 
-    /// Gives the module of this number the table of an object, under the module's name. Without memory the
-    /// tables stay.
+    /// Gives the module of this number the table of an object, under the module's name. Without memory the tables stay.
     pub fn add(&mut self, number: u32, name: &Name, o: &Object) -> Result<(), Memory>
         requires number { number < MAX_MODULES }
         requires few { length o.now.symbols ≤ 2 ^ 32 }
-        ensures added { OnOk result (self.new ≡ slice_set self.old number (Some (table_of name.now o.entry.now))) }
-        ensures stays { OnErr result (self.new ≡ self.old) }
+        ensures added { OnOk result (self.new.slots ≡ slice_set self.old.slots number (Some (table_of name.now o.entry.now))) }
+        ensures room { OnOk result (number < self.new.room) }
+        ensures grows { self.old.room ≤ self.new.room }
+        ensures stays { OnErr result (self.new.slots ≡ self.old.slots) }
     {
         let table = Table::of(*self.slots.allocator(), name, o)?;
         make_room(&mut self.slots, number as usize + 1)?;
@@ -73,21 +75,42 @@ impl Tables {
         Ok(())
     }
 
-    /// Takes the table of a module out. Takes no memory.
-    pub fn remove(&mut self, number: u32)
-        ensures { self.new ≡ slice_set self.old number None }
+    /// Takes the table of a module out, and answers it. None where it has none. Takes no memory.
+    pub fn take(&mut self, number: u32) -> Option<Table>
+        ensures table { result ≡ table_at self.old.slots number }
+        ensures left { self.new.slots ≡ slice_set self.old.slots number None }
+        ensures room { self.new.room ≡ self.old.room }
     {
         let number = number as usize;
         if number < self.slots.len() {
-            put_slot(&mut self.slots, number, None);
+            take_slot(&mut self.slots, number)
+        } else {
+            None
         }
+    }
+
+    /// Takes the table of a module out. Takes no memory.
+    pub fn remove(&mut self, number: u32)
+        ensures left { self.new.slots ≡ slice_set self.old.slots number None }
+        ensures room { self.new.room ≡ self.old.room }
+    {
+        let _ = self.take(number);
+    }
+
+    /// Gives the module of this number a table, for which there is a place. Takes no memory.
+    pub fn put(&mut self, number: u32, table: Table)
+        requires { number < self.old.room }
+        ensures put { self.new.slots ≡ slice_set self.old.slots number (Some table) }
+        ensures room { self.new.room ≡ self.old.room }
+    {
+        put_slot(&mut self.slots, number as usize, Some(table));
     }
 
     /// The first exported definition of a name in the first module of the scope that has one. None exactly
     /// where no module of the scope has one. Takes no memory.
     pub fn find(&self, scope: &Numbers, name: &Name) -> Option<Found>
-        ensures found { result ≡ first_definition (export_in self.now name.now) scope.now }
-        ensures none { IsNone result ↔ All (λ m. export_in self.now name.now m ≡ None) scope.now }
+        ensures found { result ≡ first_definition (export_in self.now.slots name.now) scope.now }
+        ensures none { IsNone result ↔ All (λ m. export_in self.now.slots name.now m ≡ None) scope.now }
     {
         found_in(&self.slots, scope.as_slice(), name)
     }
@@ -96,7 +119,7 @@ impl Tables {
     /// order, each module once. A needed name that is no module's name counts for nothing.
     pub fn closure(&self, alloc: Global, root: u32) -> Result<Numbers, Memory>
         requires { root < MAX_MODULES }
-        ensures { IfOk result (IsClosure nat_eq (needs self.now) (root ∷ [])) }
+        ensures { IfOk result (IsClosure nat_eq (needs self.now.slots) (root ∷ [])) }
     {
         let members = closure_of(alloc, &self.slots, root)?;
         Ok(Seq::from_vec(members))

@@ -21,7 +21,7 @@ pub record HoldsEntry (m : GuestMemory) (entry got : ℕ) (slot : SlotPair) : Ty
   pub slot_below : slot.addr + 8 < 2 ^ 32
   pub watched : (i : ℕ) → i < 20 → is_watched m (entry + i) ≡ true
 
--- Each clear entry of a live module is that of a call, where the memory ends below 2^32.
+-- Each clear entry of a live module is that of a call through what its slot holds, where the memory ends below 2^32.
 pub record CallsAreHeld : Type 0 where
   pub slots : (l : Loaded) (m v k : ℕ) (o : Object) → object_at l.modules.process m ≡ Some o → IsPltEntry o v k
       → (slot : SlotPair) × (slot_pair_of l.modules.process l.modules.maps m k ≡ Some slot)

@@ -1,6 +1,6 @@
 -- Descriptors' addresses after loads (Arm FDPIC ABI, "Function Descriptors": a function's descriptor has one address,
 -- which tells functions apart).
-use Rattle.std.specs.Prelude.{◌≡◌, ◌≢◌, ℕ, Bool, List, Option, Some, None, All, Contains}
+use Rattle.std.specs.Prelude.{◌≡◌, ◌≢◌, ℕ, List, Option, Some, None, All, Contains}
 use Rattle.std.specs.FinMap.{get}
 use Rattle.load_map.specs.declared.entry.MapEntry.{MapEntry}
 use Rattle.fd_base.specs.Fetched.{Files}
@@ -8,9 +8,10 @@ use Rattle.elf_model.specs.declared.func.Func.{Func}
 use Rattle.elf_model.specs.Sound.{IsSound}
 use Rattle.func_desc.specs.Pool.{IsSlot}
 use Rattle.placement.specs.Placed.{Placed}
+use Rattle.load_model.specs.Joined.{Asked}
 use Rattle.load_model.specs.declared.module.Joining.{Joining}
 use Rattle.load_model.specs.Descriptors.{descriptors_after}
-use Rattle.load_model.specs.Plan.{low_of, high_of}
+use Rattle.load_model.specs.Plan.{Fits, low_of, high_of}
 use Rattle.load_process.specs.parts.TakenObjects.{IsTaken}
 use Rattle.load_state.specs.declared.plan.GroupPlan.{GroupPlan}
 use Rattle.load_state.specs.Accepted.{IsPlan, all_items, maps_after, adopted_by, given_by}
@@ -31,7 +32,7 @@ pub record AreAdoptable (l : LoadedModules) (adopted : List (Func × ℕ)) : Typ
 abbrev pub AdoptionsAreFree : Type 0
 AdoptionsAreFree =
     (l : LoadedModules) (joining : List Joining) (scope addrs : List ℕ) (maps : List (List MapEntry)) (adopted : List (Func × ℕ))
-    → HasModules l → HasRanges l → HasDescriptors l
+    → Fits l.plan → HasModules l → HasRanges l → HasDescriptors l
     → HaveOwnNumbers joining → All (HasFreeNumber l.process) joining → All (λ j. IsSound j.object) joining
     → Placed (low_of l.plan) (high_of l.plan) l.held (all_items l.plan.places joining) addrs
     → maps ≡ maps_after l.maps joining addrs → adopted ≡ adopted_by l joining scope maps
@@ -41,7 +42,7 @@ AdoptionsAreFree =
 abbrev pub DescriptorsStay : Type 0
 DescriptorsStay =
     (l new : LoadedModules) (joining : List Joining) (scope addrs : List ℕ) (adopted given : List (Func × ℕ))
-    → HasModules l → HasRanges l → HasDescriptors l → IsExtended l new joining scope
+    → Fits l.plan → HasModules l → HasRanges l → HasDescriptors l → IsExtended l new joining scope
     → HaveOwnNumbers joining → All (HasFreeNumber l.process) joining → All (λ j. IsSound j.object) joining
     → Placed (low_of l.plan) (high_of l.plan) l.held (all_items l.plan.places joining) addrs
     → new.plan ≡ l.plan → new.maps ≡ maps_after l.maps joining addrs
@@ -57,5 +58,5 @@ pub record KeepsAddresses (old new : LoadedModules) : Type 0 where
 -- the load of a plan keeps addresses
 abbrev pub AddressesStay : Type 0
 AddressesStay =
-    (l new : Loaded) (files : Option Files) (root : List ℕ) (asked : Bool) (plan : GroupPlan) → IsConsistent l
+    (l new : Loaded) (files : Option Files) (root : List ℕ) (asked : Asked) (plan : GroupPlan) → IsConsistent l
     → IsPlan l.modules files root asked plan → All (λ j. IsTaken j.object) plan.joining → IsCommitted l plan new → KeepsAddresses l.modules new.modules

@@ -1,4 +1,4 @@
--- What images and tables rest on after a load.
+-- What the tables rest on after a load.
 use Rattle.std.specs.Prelude.{◌≡◌, ◌≢◌, ℕ, Some, All, Contains}
 use Rattle.std.specs.FinMap.{get}
 use Rattle.elf_model.specs.declared.func.Func.{Func}
@@ -7,7 +7,7 @@ use Rattle.load_model.specs.Plan.{Fits}
 use Rattle.load_model.specs.Validity.{IsValid}
 use Rattle.load_state.specs.declared.plan.GroupPlan.{GroupPlan}
 use Rattle.load_state.specs.Committed.{IsCommitted}
-use Rattle.load_state.specs.Consistent.{HasModules, HasRanges, HoldsImages, HoldsTables, HasDescriptors}
+use Rattle.load_state.specs.Consistent.{HasModules, HasRanges, HoldsTables, HasDescriptors}
 use Rattle.load_state.specs.Loaded.{Loaded, pool_of}
 use Rattle.load_map.specs.Maps.{map_at}
 use Rattle.load_laws.specs.parts.Premises.{HasFreeNumber, IsExtended}
@@ -24,10 +24,6 @@ pub record IsDone (l : Loaded) (plan : GroupPlan) (new : Loaded) : Type 0 where
   pub stays : (m : ℕ) → All (λ j. j.number ≢ m) plan.joining → map_at new.modules.maps m ≡ map_at l.modules.maps m
   pub slots : (f : Func) (a : ℕ) → Contains plan.given (f, a) → IsSlot (pool_of l.modules.plan l.modules.addrs) a
   pub committed : IsCommitted l plan new
-
--- each watched byte of a module is that of its image after a load, too
-abbrev pub ImagesStay : Type 0
-ImagesStay = (l new : Loaded) (plan : GroupPlan) → IsDone l plan new → HoldsImages l → HoldsImages new
 
 -- the functions that get a descriptor's address in a load
 pub record IsGiven (l : Loaded) (plan : GroupPlan) (new : Loaded) : Type 0 where

@@ -1,6 +1,7 @@
 -- What loads come to over told files.
-use Rattle.std.specs.Prelude.{◌⊎◌, ◌^◌, ◌<◌, ℕ, Bool, List, Some}
+use Rattle.std.specs.Prelude.{◌⊎◌, ◌^◌, ◌<◌, ℕ, List, Some}
 use Rattle.fd_base.specs.Fetched.{Files}
+use Rattle.load_model.specs.Joined.{Asked}
 use Rattle.load_model.specs.declared.error.LoadRefusal.{LoadRefusal}
 use Rattle.load_model.specs.declared.plan.MemPlan.{MemPlan}
 use Rattle.load_model.specs.Plan.{Fits}
@@ -13,7 +14,7 @@ use Rattle.load_state.specs.ProgramLoad.{IsLoadRefused, IsProgramLoaded}
 use Rattle.load_state.specs.Refused.{IsRefused}
 
 -- a load has a plan, or a refusal
-abbrev pub HasPlanOrRefusal : LoadedModules → Files → List ℕ → Bool → Type 0
+abbrev pub HasPlanOrRefusal : LoadedModules → Files → List ℕ → Asked → Type 0
 HasPlanOrRefusal l told root asked = ((plan : GroupPlan) × IsPlan l (Some told) root asked plan) ⊎ ((r : LoadRefusal) × IsRefused l (Some told) root r)
 
 -- the load of a program is done, or refused
@@ -22,9 +23,9 @@ LoadComesTo plan told name = ((l : Loaded) × IsProgramLoaded plan told name l) 
 
 pub record LoadsComeTo : Type 0 where
   -- each load of a consistent loader has a plan, or a refusal
-  pub planned : (l : Loaded) (told : Files) (root : List ℕ) (asked : Bool) → IsConsistent l → HasPlanOrRefusal l.modules told root asked
+  pub planned : (l : Loaded) (told : Files) (root : List ℕ) (asked : Asked) → IsConsistent l → HasPlanOrRefusal l.modules told root asked
   -- each plan can be carried out
-  pub committed : (l : Loaded) (told : Files) (root : List ℕ) (asked : Bool) (plan : GroupPlan) → IsConsistent l → IsPlan l.modules (Some told) root asked plan
+  pub committed : (l : Loaded) (told : Files) (root : List ℕ) (asked : Asked) (plan : GroupPlan) → IsConsistent l → IsPlan l.modules (Some told) root asked plan
       → (new : Loaded) × IsCommitted l plan new
   -- the load of each program in a memory that is large enough for its parts is done, or refused
   pub programs : (plan : MemPlan) (told : Files) (name : List ℕ) → Fits plan → plan.memory < 2 ^ 32 → LoadComesTo plan told name

@@ -1,8 +1,9 @@
 -- What holds of the plans of a consistent loader.
-use Rattle.std.specs.Prelude.{ℕ, ◌+◌, ◌^◌, ◌<◌, ◌≤◌, Bool, List, Option, length, All, AllPairs}
+use Rattle.std.specs.Prelude.{ℕ, ◌+◌, ◌^◌, ◌<◌, ◌≤◌, List, Option, length, All, AllPairs}
 use Rattle.fd_base.specs.Fetched.{Files}
 use Rattle.guest_mem.specs.Memory.{GuestMemory}
 use Rattle.load_map.specs.parts.IsLoadMap.{EndsBelow}
+use Rattle.load_model.specs.Joined.{Asked}
 use Rattle.load_model.specs.declared.plan.TheConstants.{DESCRIPTOR_SIZE}
 use Rattle.load_places.specs.parts.Descriptors.{DescriptorsApart, HasDescriptorsPut}
 use Rattle.load_places.specs.parts.Modules.{HasModulesPut}
@@ -18,7 +19,7 @@ use Rattle.load_places.specs.parts.CommitSteps.{IsEntered}
 -- this holds of each plan of a consistent loader
 abbrev pub OfPlans : (Loaded → GroupPlan → Type 0) → Type 0
 OfPlans P =
-    (l : Loaded) (files : Option Files) (root : List ℕ) (asked : Bool) (plan : GroupPlan) → IsConsistent l
+    (l : Loaded) (files : Option Files) (root : List ℕ) (asked : Asked) (plan : GroupPlan) → IsConsistent l
     → IsPlan l.modules files root asked plan → All (λ j. IsTaken j.object) plan.joining → P l plan
 
 -- its new modules can be placed

@@ -6,8 +6,8 @@ use Rattle.elf_model.specs.Sound.{IsSound}
 use Rattle.guest_mem.specs.Memory.{GuestMemory, HaveKind}
 use Rattle.load_map.specs.Whole.{PlacedApart}
 use Rattle.load_memory.specs.parts.PlacingSteps.{IsPlacedBy, LiesWithin}
+use Rattle.load_model.specs.Image.{load_map_at}
 use Rattle.load_model.specs.declared.module.Joining.{Joining}
-use Rattle.load_model.specs.declared.plan.TheConstants.{DESCRIPTORS}
 use Rattle.load_laws.specs.parts.Premises.{HaveOwnNumbers}
 use Rattle.load_map.specs.Maps.{map_at}
 use Rattle.symbol_scope.specs.declared.tables.TheConstants.{MAX_MODULES}
@@ -17,7 +17,7 @@ pub record IsPlaceable (memory : GuestMemory) (maps : List (List MapEntry)) (j :
   pub number' : j.number < MAX_MODULES
   pub sound : IsSound j.object
   pub segments : AllZip IsPlacedBy j.object.segments (map_at maps j.number)
-  pub inside : All (LiesWithin DESCRIPTORS (length memory.bytes)) (map_at maps j.number)
+  pub inside : All (LiesWithin (load_map_at MAX_MODULES) (length memory.bytes)) (map_at maps j.number)
   pub free : All (λ e. HaveKind memory e.addr e.memsz None) (map_at maps j.number)
   pub apart : AllPairs PlacedApart (map_at maps j.number)
   pub sizes : AllZip (λ e part. length part ≡ e.memsz) (map_at maps j.number) parts
@@ -27,7 +27,7 @@ abbrev pub ModulesApart : List (List MapEntry) → Joining → Joining → Type 
 ModulesApart maps i j = All (λ d. All (PlacedApart d) (map_at maps j.number)) (map_at maps i.number)
 
 pub record ArePlaceable (memory : GuestMemory) (joining : List Joining) (maps : List (List MapEntry)) (parts : List (List (List ℕ))) : Type 0 where
-  pub tables : DESCRIPTORS ≤ length memory.bytes
+  pub tables : load_map_at MAX_MODULES ≤ length memory.bytes
   pub each : AllZip (IsPlaceable memory maps) joining parts
   pub numbers : HaveOwnNumbers joining
   pub apart : AllPairs (ModulesApart maps) joining

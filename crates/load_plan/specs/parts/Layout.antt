@@ -6,12 +6,11 @@ use Rattle.elf_model.specs.declared.constants.TheConstants.{MAX_SEGMENTS}
 use Rattle.placement.specs.Placed.{FailsAt}
 use Rattle.placement.specs.Space.{Space, IsPlaced}
 use Rattle.symbol_scope.specs.declared.tables.TheConstants.{MAX_MODULES}
-use Rattle.symbol_scope.specs.parts.Slots.{Slots}
+use Rattle.symbol_scope.specs.parts.Slots.{TableSpace}
 use Rattle.load_model.specs.declared.error.LoadErr.{LoadErr}
 use Rattle.load_model.specs.declared.error.LoadErr.TheVariants.{Refused, Memory as NoMemory}
 use Rattle.load_model.specs.declared.error.LoadRefusal.TheVariants.{DescriptorsFull, NoRoom}
-use Rattle.load_model.specs.declared.plan.TheConstants.{DESCRIPTORS}
-use Rattle.load_model.specs.Plan.{Fits, low_of, high_of}
+use Rattle.load_model.specs.Plan.{Fits, descriptors_at, low_of, high_of}
 use Rattle.load_map.specs.parts.IsLoadMap.{EndsBelow}
 use Rattle.load_image.specs.Places.{placed_pairs_of}
 use Rattle.load_state.specs.Accepted.{all_items, maps_after}
@@ -38,7 +37,7 @@ pub record IsRoomy (s : Standing) (space : Space) (pool : Pool) : Type 0 where
   pub low' : space.low ≡ low_of s.plan.now
   pub high' : space.high ≡ high_of s.plan.now
   pub small : space.high < 2 ^ 32
-  pub base' : pool.base ≡ DESCRIPTORS
+  pub base' : pool.base ≡ descriptors_at s.plan.now
   pub slots' : pool.slots ≡ s.plan.now.descriptors
   pub modules' : length s.process.now.modules ≡ MAX_MODULES
   pub maps' : length s.maps.now ≡ MAX_MODULES
@@ -46,9 +45,9 @@ pub record IsRoomy (s : Standing) (space : Space) (pool : Pool) : Type 0 where
   pub few : length space.held + MAX_SEGMENTS * MAX_MODULES < 2 ^ 32
 
 -- a plan can be made: there is a table for each live module, which has few symbols
-pub record IsPlannable (s : Standing) (space : Space) (tables : Slots) (pool : Pool) : Type 0 where
+pub record IsPlannable (s : Standing) (space : Space) (tables : TableSpace) (pool : Pool) : Type 0 where
   pub roomy : IsRoomy s space pool
-  pub tables' : HasTables s.process.now tables
+  pub tables' : HasTables s.process.now tables.slots
   pub symbols : HasFewSymbols s.process.now
 
 -- where what is linked goes

@@ -5,7 +5,7 @@ use Rattle.symbol_scope.specs.declared.tables.TheConstants.{MAX_MODULES}
 use Rattle.load_model.specs.declared.module.Joining.{Joining}
 use Rattle.load_model.specs.declared.module.SymbolicProcess.{SymbolicProcess}
 use Rattle.load_model.specs.Definition.{Linkage}
-use Rattle.load_model.specs.Joined.{is_empty, live_from, group_of}
+use Rattle.load_model.specs.Joined.{Asked, is_empty, live_from, group_of}
 use Rattle.load_model.specs.Linkage.{linkage_of, linkage_with, joining_at, joins, closure_of}
 use Rattle.load_model.specs.Process.{live_at, is_live}
 use Rattle.load_model.specs.Validity.{IsValid}
@@ -13,9 +13,9 @@ use Rattle.load_model.specs.Walk.{IsWalk}
 use Rattle.load_process.specs.parts.LoadedProcess.{scope_after, loaded}
 
 -- this holds of each load of a valid process
-abbrev pub OfLoads : (SymbolicProcess → List Joining → List (List ℕ) → Bool → Type 0) → Type 0
+abbrev pub OfLoads : (SymbolicProcess → List Joining → List (List ℕ) → Asked → Type 0) → Type 0
 OfLoads P =
-    (p : SymbolicProcess) (files : Option Files) (root : List ℕ) (joining : List Joining) (names : List (List ℕ)) (asked : Bool)
+    (p : SymbolicProcess) (files : Option Files) (root : List ℕ) (joining : List Joining) (names : List (List ℕ)) (asked : Asked)
     → IsValid p → IsWalk p files root joining names → P p joining names asked
 
 -- The process after a load is valid.
@@ -23,13 +23,13 @@ abbrev pub LoadsKeepValid : Type 0
 LoadsKeepValid = OfLoads (λ p joining names asked. IsValid (loaded p joining names asked))
 
 -- The new modules stand at their numbers in the process q after a load, with one scope, and the others as they were.
-pub record IsJoined (p q : SymbolicProcess) (joining : List Joining) (scope : List ℕ) : Type 0 where
+pub record IsJoined (p q : SymbolicProcess) (lazy : Bool) (joining : List Joining) (scope : List ℕ) : Type 0 where
   pub linkage : linkage_of q ≡ linkage_with p joining scope
-  pub new : (m : ℕ) (j : Joining) → joining_at joining m ≡ Some j → live_at q m ≡ Some (live_from (group_of joining) j)
+  pub new : (m : ℕ) (j : Joining) → joining_at joining m ≡ Some j → live_at q m ≡ Some (live_from lazy (group_of joining) j)
   pub old : (m : ℕ) → joins joining m ≡ false → live_at q m ≡ live_at p m
 
 abbrev pub LoadsJoin : Type 0
-LoadsJoin = OfLoads (λ p joining names asked. IsJoined p (loaded p joining names asked) joining (scope_after p joining names))
+LoadsJoin = OfLoads (λ p joining names asked. IsJoined p (loaded p joining names asked) asked.lazy joining (scope_after p joining names))
 
 -- Symbols of a live module m are looked up in the same modules as before, and these are live and have the same objects.
 pub record IsLeft (p : SymbolicProcess) (k l : Linkage) (m : ℕ) : Type 0 where

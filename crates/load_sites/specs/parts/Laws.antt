@@ -1,13 +1,15 @@
 -- What holds of symbols and sites.
-use Rattle.std.specs.Prelude.{◌≡◌, ℕ, ◌+◌, ◌^◌, ◌≤◌, true, Some, Ok, All}
+use Rattle.std.specs.Prelude.{◌≡◌, ◌⊎◌, ℕ, ◌+◌, ◌^◌, ◌≤◌, true, Option, Some, None, Ok, All, Contains}
 use Rattle.elf_model.specs.declared.func.Func.{Func}
 use Rattle.elf_model.specs.declared.object.Object.{Object}
 use Rattle.elf_model.specs.declared.object.Rel.{Rel}
 use Rattle.elf_model.specs.declared.object.Symbol.{Symbol}
 use Rattle.elf_model.specs.Sound.{IsSound}
 use Rattle.load_model.specs.declared.meaning.Definition.TheVariants.{Symbol as Is}
-use Rattle.load_model.specs.declared.meaning.SiteValue.TheVariants.{Place as Placed, Formula, Pair, Descriptor}
-use Rattle.load_model.specs.declared.meaning.Value.TheVariants.{Address}
+use Rattle.load_model.specs.declared.meaning.SiteValue.{SiteValue}
+use Rattle.load_model.specs.declared.meaning.SiteValue.TheVariants.{Place as Placed, Formula, Pair, Stub, Descriptor}
+use Rattle.load_model.specs.declared.meaning.Value.{Value}
+use Rattle.load_model.specs.declared.meaning.Value.TheVariants.{Address, Number}
 use Rattle.load_model.specs.Definition.{Linkage, is_own, symbol_at, definition_of}
 use Rattle.load_model.specs.Sites.{site_value, refusals_of, is_placed, is_code}
 use Rattle.elf_model.specs.Filled.{site_relocations}
@@ -32,6 +34,27 @@ pub record MeanTheSame (l k : Linkage) (m : ℕ) (o : Object) : Type 0 where
 
 abbrev pub LookUpsAgree : Type 0
 LookUpsAgree = (l k : Linkage) (m : ℕ) (o : Object) → AgreeFor l k m → MeanTheSame l k m o
+
+-- module n is m, or is one in which the symbols of m are looked up
+abbrev pub IsNear : Linkage → ℕ → ℕ → Type 0
+IsNear l m n = (n ≡ m) ⊎ Contains (l.scopes m) n
+
+-- the place or the function that a value names; a stub is the module's own
+abbrev pub named_value : Value → Option Func
+named_value (Address f) = Some f
+named_value (Number n) = None
+
+abbrev pub named_by : SiteValue → Option Func
+named_by (Placed f) = Some f
+named_by (Formula v) = named_value v
+named_by (Pair f) = f
+named_by (Stub z) = None
+named_by (Descriptor f) = f
+
+-- what the sites of a module name is in itself, or in a module of its scope
+abbrev pub SitesNameNearModules : Type 0
+SitesNameNearModules =
+    (l : Linkage) (m : ℕ) (o : Object) (r : Rel) (v : SiteValue) (f : Func) → site_value l m o r ≡ Ok v → named_by v ≡ Some f → IsNear l m f.module
 
 -- what a slot or a descriptor leads to is code
 pub record SlotsLeadToCode : Type 0 where

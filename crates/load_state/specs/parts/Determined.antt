@@ -1,8 +1,9 @@
 -- What a load comes to is determined by what was loaded before, the files, and the name.
-use Rattle.std.specs.Prelude.{◌≡◌, ℕ, Bool, List, Some}
+use Rattle.std.specs.Prelude.{◌≡◌, ℕ, List, Some}
 use Rattle.fd_base.specs.Fetched.{Files}
 use Rattle.load_model.specs.declared.error.LoadRefusal.{LoadRefusal}
 use Rattle.load_model.specs.declared.plan.MemPlan.{MemPlan}
+use Rattle.load_model.specs.Joined.{Asked}
 use Rattle.load_state.specs.declared.plan.GroupPlan.{GroupPlan}
 use Rattle.load_state.specs.Accepted.{IsPlan}
 use Rattle.load_state.specs.Loaded.{Loaded, LoadedModules}
@@ -15,6 +16,10 @@ pub record SamePlan (g h : GroupPlan) : Type 0 where
   pub joining' : g.joining ≡ h.joining
   pub scope' : g.scope ≡ h.scope
   pub global' : g.global ≡ h.global
+  pub lazy' : g.lazy ≡ h.lazy
+  pub unbound' : g.unbound ≡ h.unbound
+  pub targets' : g.targets ≡ h.targets
+  pub tables' : g.tables ≡ h.tables
   pub addrs' : g.addrs ≡ h.addrs
   pub maps' : g.maps ≡ h.maps
   pub adopted' : g.adopted ≡ h.adopted
@@ -22,9 +27,9 @@ pub record SamePlan (g h : GroupPlan) : Type 0 where
 
 -- a load has one plan, or one refusal, and not both
 pub record PlansAreDetermined : Type 0 where
-  pub same_plan : (l : LoadedModules) (told : Files) (name : List ℕ) (asked : Bool) (g h : GroupPlan)
+  pub same_plan : (l : LoadedModules) (told : Files) (name : List ℕ) (asked : Asked) (g h : GroupPlan)
       → IsPlan l (Some told) name asked g → IsPlan l (Some told) name asked h → SamePlan g h
-  pub exclusive : (l : LoadedModules) (told : Files) (name : List ℕ) (asked : Bool) (g : GroupPlan) (r : LoadRefusal)
+  pub exclusive : (l : LoadedModules) (told : Files) (name : List ℕ) (asked : Asked) (g : GroupPlan) (r : LoadRefusal)
       → IsPlan l (Some told) name asked g → ¬ IsRefused l (Some told) name r
   pub same_refusal : (l : LoadedModules) (told : Files) (name : List ℕ) (r s : LoadRefusal)
       → IsRefused l (Some told) name r → IsRefused l (Some told) name s → r ≡ s

@@ -5,7 +5,7 @@ use Rattle.std.specs.FinMap.{get}
 use Rattle.elf_model.specs.declared.object.Symbol.{Symbol}
 use Rattle.symbol_scope.specs.Closure.{IsReached, IsClosure}
 use Rattle.symbol_scope.specs.Exported.{first_export}
-use Rattle.symbol_scope.specs.parts.Exports.{exports_of}
+use Rattle.symbol_scope.specs.Exports.{exports_of}
 
 -- Roots have one closure, it has what is reached, and each member once.
 pub record ClosuresOf (X : Type 0) (same : X → X → Bool) : Type 0 where

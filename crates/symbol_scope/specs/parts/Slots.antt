@@ -2,7 +2,7 @@
 use Rattle.std.specs.Prelude.{ℕ, ◌-◌, List, ◌++◌, length, replicate, Option, None, refl}
 use Rattle.std.specs.Coded.{Coded, code_by, coded×, coded_list, coded_option, coded_ℕ}
 use Rattle.symbol_scope.specs.declared.table.Table.{Table}
-use Rattle.symbol_scope.specs.parts.Exports.{ExportMap, export_map_code}
+use Rattle.symbol_scope.specs.Exports.{ExportMap, export_map_code}
 
 -- a place for each number from 0 to 63, without a table where there is no module
 abbrev pub Slots : Type 0
@@ -21,3 +21,11 @@ slots_code = coded_list (coded_option table_code)
 -- filled up to 64 places
 abbrev pub filled_up : Slots → Slots
 filled_up slots = slots ++ replicate (64 - length slots) None
+
+-- what stands in each place, and for how many numbers from 0 on a place is there already
+pub record TableSpace : Type 0 where
+  pub slots : Slots
+  pub room : ℕ
+
+abbrev pub table_space_code : Coded TableSpace
+table_space_code = code_by (Slots × ℕ) (coded× slots_code coded_ℕ) (λ t. (t.slots, t.room)) (λ p. record { slots = p.0; room = p.1 }) (λ _. refl)

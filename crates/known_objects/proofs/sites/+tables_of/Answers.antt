@@ -11,6 +11,6 @@ returns-in_default-clause-tables g t c = λ m.
 pub returns-clause-tables : goal.returns-clause-tables
 returns-clause-tables g t c = λ m.
     let joining = c.args.joining.now in
-    let room : c.new-item.result.number < length c.in_ok-tables.tables = omega (arith, c.in_ok-tables.ensures.size) in
-    let more = one_table c.in_ok-tables.tables (take (length joining - 1) (drop 1 joining)) c.new-item.result room c.in_ok-tables.ensures.tables m in
+    let room : c.new-item.result.number < length c.in_ok-tables.tables.slots = omega (arith, c.in_ok-tables.ensures.size) in
+    let more = one_table c.in_ok-tables.tables.slots (take (length joining - 1) (drop 1 joining)) c.new-item.result room c.in_ok-tables.ensures.tables m in
     rw c.in_ok-add.ensures.added more ∙ ap (λ (js : List Joining). wants (joining_at js m)) (front joining c.new-item.result c.in-len1-up.len_at_least c.new-item.is)

@@ -4,7 +4,7 @@ use Rattle.load_image.specs.parts.Words.{words_by}
 use Rattle.load_image.proofs.filling.push_values.Given as goal
 
 -- the words of the sites that are left are still to come
-abbrev pub invariant-loop-rel : goal.invariant-loop-rel
-invariant-loop-rel l =
-    l.words.items ++ words_by (placing_in l.places) l.m l.object (drop (length l.yielded) l.rels) (drop (length l.yielded) l.values)
-    ≡ l.initial.words.items ++ words_by (placing_in l.places) l.m l.object l.rels l.values
+abbrev pub invariant-loop-site : goal.invariant-loop-site
+invariant-loop-site l =
+    l.words.items ++ words_by (placing_in l.places) l.m l.object l.unbound (drop (length l.yielded) l.sites) (drop (length l.yielded) l.values)
+    ≡ l.initial.words.items ++ words_by (placing_in l.places) l.m l.object l.unbound l.sites l.values

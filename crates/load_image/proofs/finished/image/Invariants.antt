@@ -12,4 +12,4 @@ use Rattle.load_image.proofs.finished.image.Given as goal
 abbrev pub invariant-loop-segment : goal.invariant-loop-segment
 invariant-loop-segment l =
     (k : Linkage) → HasValues k l.m l.object l.values
-    → AllZip (IsPart k (placing_in l.places) l.m l.object) (take l.segment-index (map_at l.places.maps l.m)) l.image
+    → AllZip (IsPart k (placing_in l.places) l.m l.object l.unbound) (take l.segment-index (map_at l.places.maps l.m)) l.image

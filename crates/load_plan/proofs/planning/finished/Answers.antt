@@ -20,6 +20,9 @@ parts-requires-clause-fit c =
     let linked = c.args.linked.now in
     rw (c.as_slice-joining.ensures, c.as_slice-3.ensures) (all_fit (linkage_with c.args.standing.now.process.now linked.joining linked.scope) linked.joining linked.values c.requires.values)
 
+pub parts-requires-clause-flags : goal.parts-requires-clause-flags
+parts-requires-clause-flags c = rw c.as_slice-joining.ensures c.requires.flags
+
 pub returns : goal.returns
 returns c =
     let linked = c.args.linked.now in
@@ -27,9 +30,9 @@ returns c =
     let l = linkage_with p linked.joining linked.scope in
     let made = rw (c.as_slice-joining.ensures, c.as_slice-3.ensures, c.new-places.ensures, c.in_ok-descriptors.ensures, c.as_slice-2.ensures, c.as_slice.ensures, c.as_slice-adopted.ensures) at c.parts.ensures in
     IfOk-weaker c.parts.result _ _
-    (λ parts all. finished_by l p linked.joining (record {
+    (λ parts all lazy flags. finished_by l p lazy linked.joining (record {
       maps = c.args.layout.now.maps;
       gots = c.deref.result.now;
       descriptors = record { had = c.args.pool.now.addrs; privates = c.args.layout.now.adopted; given = c.args.layout.now.given };
-    }) parts c.requires.modules (below_of p linked.joining c.requires.new.free) (c.deref.ensures.value ∙ rw c.as_slice-joining.ensures at c.in_ok-gots.ensures) (all l c.requires.values))
+    }) parts c.requires.modules (below_of p linked.joining c.requires.new.free) (c.deref.ensures.value ∙ rw c.as_slice-joining.ensures at c.in_ok-gots.ensures) (all l lazy c.requires.values flags))
     made

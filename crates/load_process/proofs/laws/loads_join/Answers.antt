@@ -6,4 +6,4 @@ use Rattle.load_process.proofs.laws.loads_join.Goals as goal
 
 pub returns : goal.returns
 returns c = λ p files root joining names asked valid walk.
-    joined p joining names (facts_of p files root joining names walk) valid (scope_after p joining names) (global_after p asked (scope_after p joining names))
+    joined p joining names (facts_of p files root joining names walk) valid asked.lazy (scope_after p joining names) (global_after p asked.global (scope_after p joining names))

@@ -1,6 +1,6 @@
 use Rattle.std.proofs.Common.{◌≡◌, suc, ◌+◌, sym, ◌∙◌, true, false, arith}
 use Rattle.mod_load.specs.parts.Accessors.{lies_in}
-use Rattle.mod_load.proofs.FirstNumber.{first_is, none_next}
+use Rattle.fd_base.proofs.FirstNumber.{first_is, none_next}
 use Rattle.mod_load.proofs.accessors.first_at.Goals as goal
 
 pub returns-then-lies_in : goal.returns-then-lies_in

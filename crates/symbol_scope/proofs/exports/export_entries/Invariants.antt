@@ -1,6 +1,6 @@
 use Rattle.std.proofs.Common.{◌≡◌, ◌++◌, drop}
 use Rattle.std.specs.List.{filter_map, enumerate_from}
-use Rattle.symbol_scope.specs.parts.Exports.{export_entry, export_entries}
+use Rattle.symbol_scope.specs.Exports.{export_entry, export_entries}
 use Rattle.symbol_scope.proofs.exports.export_entries.Given as goal
 
 -- the entries of the other symbols are still to come

@@ -5,6 +5,7 @@ use Rattle.symbol_scope.proofs.slots.make_room.Given as goal
 abbrev pub invariant-loop-slots : goal.invariant-loop-slots
 invariant-loop-slots l = record {
   within : length l.slots.items ≤ 64;
+  grows : length l.fn.slots.items ≤ length l.slots.items;
   stays : filled_up l.slots.items ≡ filled_up l.fn.slots.items;
 }
 

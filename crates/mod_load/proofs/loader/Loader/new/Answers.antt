@@ -1,4 +1,4 @@
-use Rattle.std.proofs.Common.{◌≡◌, ap}
+use Rattle.std.proofs.Common.{◌≡◌, ap, ◌∙◌}
 use Rattle.load_state.specs.Loaded.{LoadedModules}
 use Rattle.load_state.specs.ProgramLoad.{start_of}
 use Rattle.load_laws.proofs.NewLoaders.{start_laid_out}
@@ -8,8 +8,9 @@ use Rattle.mod_load.proofs.loader.Loader.new.Goals as goal
 
 pub invariant_of-result : goal.invariant_of-result
 invariant_of-result c =
-    start_fit c.args.plan.now c.in_ok-copy.field-0 c.in_ok-process.process c.in_ok-ranges.ranges c.in_ok-pool.pool c.low.result c.high.result c.in_ok-copy.ensures
-    (is_start c.in_ok-process.process c.in_ok-process.ensures.valid c.in_ok-process.ensures.empty c.in_ok-process.ensures.global) c.low.ensures c.high.ensures c.in_ok-ranges.ensures c.in_ok-pool.ensures
+    start_fit c.args.plan.now c.in_ok-copy.field-0 c.in_ok-process.process c.in_ok-ranges.ranges c.in_ok-pool.pool c.new-tables.result c.into_vec.result.items c.low.result c.high.result c.descriptors_at.result c.in_ok-copy.ensures
+    (is_start c.in_ok-process.process c.in_ok-process.ensures.valid c.in_ok-process.ensures.empty c.in_ok-process.ensures.global) c.low.ensures c.high.ensures c.descriptors_at.ensures.value
+    c.in_ok-ranges.ensures c.in_ok-pool.ensures c.new-tables.ensures (c.into_vec.ensures ∙ c.in_ok-targets.ensures)
 
 pub returns : goal.returns
 returns c =

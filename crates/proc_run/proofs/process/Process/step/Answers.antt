@@ -24,3 +24,7 @@ returns-in-SinkFault-clause-part g c = λ same others. (
   c.in-SinkFault.ensures.answer.0,
   part_put c.args.self.now c.args.thread c.one_turn.new.self same others c.requires.ready.none _ _ c.in-SinkFault.ensures.answer.1,
 )
+
+pub returns-in-Memory-clause-part : goal.returns-in-Memory-clause-part
+returns-in-Memory-clause-part g c =
+    λ same others. part_put c.args.self.now c.args.thread c.one_turn.new.self same others c.requires.ready.none _ _ c.in-Memory.ensures.answer

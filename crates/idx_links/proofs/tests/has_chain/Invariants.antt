@@ -1,0 +1,6 @@
+use Rattle.std.specs.Prelude.{IfSome}
+use Rattle.idx_links.specs.parts.Nodes.{IsLive}
+use Rattle.idx_links.proofs.tests.has_chain.Given as goal
+
+abbrev pub invariant-loop-value : goal.invariant-loop-value
+invariant-loop-value g l = IfSome l.at (IsLive l.pool)

@@ -1,0 +1,2 @@
+mod EmptyZips
+pub mod ModulesPlaced
