@@ -10,7 +10,7 @@ set -eu
 
 rounds=${1:-200}
 top=$(cd "$(dirname "$0")/.." && pwd)
-real=$top/../shared/data/real
+real=$top/examples/real
 fdpic=$top/crates/fdpic/out/fdpic
 work=$(mktemp -d)
 trap 'rm -rf "$work"' EXIT
@@ -27,9 +27,9 @@ millis() {
 }
 
 cd "$real"
-steps=$("$fdpic" run p15-eager.job | awk '$1 == "exit" { print $2 }')
-whole=$(millis "$fdpic" run p15-eager.job)
-loaded=$(millis "$fdpic" bind p15-eager.job)
+steps=$("$fdpic" run p15.job | awk '$1 == "exit" { print $2 }')
+whole=$(millis "$fdpic" run p15.job)
+loaded=$(millis "$fdpic" bind p15.job)
 echo "run: $rounds runs of $steps steps in $whole ms, $loaded ms of it to start and load:" \
     "$((rounds * steps / (whole - loaded + 1))) thousand steps a second"
 
@@ -40,6 +40,6 @@ if command -v qemu-arm >/dev/null && command -v arm-linux-gnueabi-gcc >/dev/null
 fi
 
 if command -v callgrind_annotate >/dev/null; then
-    valgrind --tool=callgrind --callgrind-out-file="$work/calls" "$fdpic" run p15-eager.job >/dev/null 2>&1
+    valgrind --tool=callgrind --callgrind-out-file="$work/calls" "$fdpic" run p15.job >/dev/null 2>&1
     callgrind_annotate "$work/calls" | grep -E '^ *[0-9,]+ \(' | sed 's/ \[.*//; s/???://' | head -9
 fi

@@ -20,9 +20,9 @@ done
 grep -E '^(fd_base|a32_isa|guest_mem|a32_machine):' "$top/crates.txt" > "$work/crates.txt"
 echo 'steps_bench: a32_machine guest_mem fd_base' >> "$work/crates.txt"
 
-# mapping two ranges is proved as in the tests of the machine
-sed 's/a32_machine.proofs.tests.map_next/steps_bench.proofs.map_next/' \
-    "$top/crates/a32_machine/proofs/tests/map_next/Answers.antt" > "$bench/proofs/map_next/Answers.antt"
+# mapping two ranges is proved as in the tests of steps
+sed "s/known_steps.proofs.steps.map_next/steps_bench.proofs.map_next/" \
+    "$top/crates/known_steps/proofs/steps/map_next/Answers.antt" > "$bench/proofs/map_next/Answers.antt"
 touch "$bench/proofs/Lib.antt"
 
 cat > "$bench/src/main.rt" <<END

@@ -3,7 +3,7 @@
 
 usage: tests/against_readelf.py FOLDER
 
-It runs the program that ./test has built, and isn't part of the gate. Ends with 1 where something differs.
+It runs the program that ./build or ./test has built, and isn't part of the gate. Ends with 1 where something differs.
 """
 
 import pathlib

@@ -1,14 +1,13 @@
 #!/bin/sh
-# Runs each real program of a folder beside the project, bound at start, by both builds of `fdpic`: it has to end with the
-# exit value and to put out the bytes that are listed there, and each call that begins has to arrive four steps later.
-# Skipped where there is no such folder. Called at the project's top, after the gate.
-real=../shared/data/real
-[ -d "$real" ] || exit 0
+# Runs each real program of examples/real, bound at start, by both builds of `fdpic`: it has to end with the exit value and to
+# put out the bytes that are listed in tests/real/expected.txt, and each call that begins has to arrive four steps later.
+# Called at the project's top, after the gate.
+listed=$(cd tests/real && pwd)/expected.txt || exit 1
 out=$(cd crates/fdpic/out && pwd) || exit 1
-cd "$real" || exit 1
-grep -v '^#' expected.txt | while read -r name _ value _ bytes; do
+cd examples/real || exit 1
+grep -v '^#' "$listed" | while read -r name _ value _ bytes; do
     for program in "$out/fdpic" "$out/fdpic.by-rattle"; do
-        report=$("$program" run "$name-eager.job") || exit 1
+        report=$("$program" run "$name.job") || exit 1
         printf '%s\n' "$report" | awk -v value="$((value))" -v bytes="$bytes" '
             $1 == "out" && $4 != "-" { put = put $4 }
             $1 == "enter" { entered++; due[$2 + 4, $3] }

@@ -22,7 +22,8 @@ AHEAD = {
     f"crates/{it}.antt"
     for it in (
         "elf_model/specs/Hashed", "elf_model/specs/RelEntries", "elf_model/specs/RelSections", "elf_model/specs/RelSymbols",
-        "elf_model/specs/Relocatable", "arm_relocs/specs/Branch", "a32_isa/specs/Table", "rofixup/specs/Fixups", "plt_code/specs/Table",
+        "elf_model/specs/Relocatable", "elf_model/specs/RelSound", "arm_relocs/specs/Branch", "a32_isa/specs/Table", "rofixup/specs/Fixups",
+        "plt_code/specs/Table",
     )
 }
 IMPORT = re.compile(r"\buse Rattle\.(\w+)\.specs\.([\w.]+?)(?:\.\{([^}]*)\})?(?: as \w+)?;?\s*$", re.M)

@@ -8,3 +8,5 @@ pub mod SoundSegments
 pub mod SoundSites
 pub mod Soundness
 pub mod FilledSites
+pub mod Texts
+pub mod RelSoundness

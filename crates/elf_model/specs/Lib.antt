@@ -18,3 +18,4 @@ pub mod RelSymbols
 pub mod RelEntries
 pub mod Relocatable
 pub mod Sound
+pub mod RelSound

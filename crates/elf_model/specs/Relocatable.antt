@@ -1,5 +1,5 @@
 -- What it means that bytes are a relocatable file, and why others are none.
-use Rattle.std.specs.Prelude.{◌≡◌, ℕ, List, [], ◌∷◌, ◌++◌, map, filter, Option, None}
+use Rattle.std.specs.Prelude.{◌≡◌, ℕ, List, [], ◌∷◌, ◌++◌, map, filter, Option, Some, None}
 use Rattle.std.specs.List.{range_with_len}
 use Rattle.elf_model.specs.declared.constants.TheConstants.{ELFOSABI_NONE, ELFOSABI_ARM_FDPIC, ET_REL}
 use Rattle.elf_model.specs.declared.refusal.ElfRefusal.{ElfRefusal}
@@ -61,3 +61,8 @@ relocatable_of bytes = record { sections = sections bytes; symbols = symbols byt
 pub record IsRelocatable (bytes : List ℕ) (r : RelObject) : Type 0 where
   pub passes : relocatable_refusal_of bytes ≡ None
   pub fields : r ≡ relocatable_of bytes
+
+-- two relocatable files of the same bytes are one, and no test fails of the bytes of one
+pub record OneRelocatable : Type 0 where
+  pub same : (bytes : List ℕ) (a b : RelObject) → IsRelocatable bytes a → IsRelocatable bytes b → a ≡ b
+  pub exclusive : (bytes : List ℕ) (r : RelObject) (refusal : ElfRefusal) → IsRelocatable bytes r → relocatable_refusal_of bytes ≡ Some refusal → ⊥

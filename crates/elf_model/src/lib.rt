@@ -15,7 +15,7 @@ mod table;
 
 pub use filled::{FilledSite, FilledSites};
 pub use func::Func;
-pub use laws::{accepted_is_sound, numbers, one_object};
+pub use laws::{accepted_is_rel_sound, accepted_is_sound, numbers, one_object, one_relocatable};
 pub use object::{
     Extent, Inits, Kind, Object, Place, Rel, Rels, Segment, Segments, Symbol, Symbols,
 };

@@ -13,7 +13,7 @@ use Rattle.elf_model.specs.declared.table.SectionHeader.{SectionHeader}
 use Rattle.elf_model.specs.Strings.{text_at, string_at}
 use Rattle.elf_model.specs.Sections.{is_named}
 use Rattle.elf_read.specs.parts.Strings.{IsString}
-use Rattle.elf_read.proofs.Places.{none_before}
+use Rattle.elf_model.proofs.Texts.{none_before}
 
 position_is : (p : ℕ → Bool) (xs : List ℕ) (i : ℕ) → i < length xs → ((k : ℕ) → k < i → p (get_or xs k 0) ≡ false) → p (get_or xs i 0) ≡ true → position p xs ≡ Some i
 position_is p xs i lt before here =

@@ -13,7 +13,7 @@ ghost use Rattle.elf_read.specs.parts.Passes.{Passes, Reads};
 use crate::error::ReadErr;
 use crate::fields::e_phnum;
 use crate::held::{has_flag, held_at};
-use crate::refuse::{refusal, refuse};
+use crate::refusals::{refusal, refuse};
 use crate::segments::{header_offset, program_header};
 use elf_model::constants::{
     D_TAG, D_VAL, DF_TEXTREL, DT_FLAGS, DT_NULL, DT_PLTREL, DT_REL, DT_RELA, DT_RELENT, DT_SYMENT,

@@ -13,7 +13,7 @@ ghost use Rattle.elf_read.specs.parts.Passes.{Reads};
 
 use crate::dynamic::value_of;
 use crate::error::ReadErr;
-use crate::refuse::refusal;
+use crate::refusals::refusal;
 use crate::sections::listed_got;
 use crate::sites::is_in_place;
 use elf_model::constants::{DT_PLTGOT, EHDR_SIZE, GOT_HEADER_SIZE};

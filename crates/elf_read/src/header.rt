@@ -10,7 +10,7 @@ use crate::fields::{
     e_flags, e_machine, e_phentsize, e_phnum, e_phoff, e_shentsize, e_shnum, e_shoff, e_shstrndx,
     e_type, e_version,
 };
-use crate::refuse::refuse;
+use crate::refusals::refuse;
 use elf_model::constants::{
     E_FLAGS, E_MACHINE, E_PHENTSIZE, E_PHNUM, E_PHOFF, E_SHENTSIZE, E_SHNUM, E_SHOFF, E_SHSTRNDX,
     E_TYPE, E_VERSION, EF_ARM_EABI_VERSION, EHDR_SIZE, EI_OSABI, ELFOSABI_ARM_FDPIC, EM_ARM,
@@ -121,8 +121,9 @@ fn check_program_table(bytes: &[u8]) -> Result<(), ReadErr>
     refuse(is_short, ElfKind::Header, E_PHOFF)
 }
 
+/// The tests of the section headers, where the file has some.
 #[tactic(auto, unfolding(elf_model::specs::Header::section_table_tests))]
-fn check_section_table(bytes: &[u8]) -> Result<(), ReadErr>
+pub fn check_section_table(bytes: &[u8]) -> Result<(), ReadErr>
     requires { EHDR_SIZE ≤ length bytes.now }
     ensures tests { Passes result (spec.section_table_tests bytes.now) }
     ensures sections { OnOk result (HasSectionTable bytes.now) }

@@ -6,7 +6,7 @@ ghost use Rattle.elf_read.specs.parts.Passes.{Reads};
 
 use crate::dynamic::first_of;
 use crate::error::ReadErr;
-use crate::refuse::{refusal, refuse};
+use crate::refusals::{refusal, refuse};
 use crate::strings::name_at;
 use elf_model::constants::{DT_NEEDED, DT_SONAME, MAX_NEEDED};
 use elf_model::{DynEntry, ElfKind};

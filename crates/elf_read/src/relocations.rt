@@ -8,7 +8,7 @@ ghost use Rattle.elf_read.specs.parts.Passes.{Passes, Gives};
 
 use crate::error::ReadErr;
 use crate::got::got_header;
-use crate::refuse::refuse;
+use crate::refusals::refuse;
 use crate::sites::Taken;
 use elf_model::constants::{
     R_ARM_ABS32, R_ARM_FUNCDESC, R_ARM_FUNCDESC_VALUE, R_ARM_GLOB_DAT, R_ARM_NONE, R_ARM_REL32,

@@ -9,7 +9,7 @@ ghost use Rattle.elf_read.specs.parts.Passes.{Reads};
 use crate::error::ReadErr;
 use crate::fields::{e_shnum, e_shoff, e_shstrndx};
 use crate::header::passes_end;
-use crate::refuse::refuse;
+use crate::refusals::refuse;
 use crate::strings::string_at;
 use elf_model::constants::{
     EHDR_SIZE, SH_ADDR, SH_ADDRALIGN, SH_FLAGS, SH_INFO, SH_LINK, SH_NAME, SH_OFFSET, SH_SIZE,
@@ -20,7 +20,7 @@ use fd_base::{Memory, Words, word_in};
 use std::alloc::Global;
 
 /// Where section header `i` stands in the file.
-fn section_offset(bytes: &[u8], i: u16) -> u32
+pub fn section_offset(bytes: &[u8], i: u16) -> u32
     requires long { EHDR_SIZE ≤ length bytes.now }
     requires fits { e_shoff bytes.now + SHDR_SIZE * i < 2 ^ 32 }
     ensures { result ≡ spec.section_offset bytes.now i }
@@ -28,8 +28,9 @@ fn section_offset(bytes: &[u8], i: u16) -> u32
     e_shoff(bytes) + u32::from(SHDR_SIZE) * u32::from(i)
 }
 
+/// Section header `i`.
 #[tactic(auto, unfolding(elf_model::specs::Sections::section_header))]
-fn section_header(bytes: &[u8], i: u16) -> SectionHeader
+pub fn section_header(bytes: &[u8], i: u16) -> SectionHeader
     requires small { length bytes.now < 2 ^ 32 }
     requires long { EHDR_SIZE ≤ length bytes.now }
     requires inside { e_shoff bytes.now + SHDR_SIZE * i + SHDR_SIZE ≤ length bytes.now }
@@ -51,7 +52,7 @@ fn section_header(bytes: &[u8], i: u16) -> SectionHeader
 
 /// The names of the sections.
 #[tactic(auto, unfolding(elf_model::specs::Sections::section_names))]
-fn section_names(bytes: &[u8]) -> &[u8]
+pub fn section_names(bytes: &[u8]) -> &[u8]
     requires small { length bytes.now < 2 ^ 32 }
     requires long { EHDR_SIZE ≤ length bytes.now }
     requires inside { e_shoff bytes.now + SHDR_SIZE * e_shnum bytes.now ≤ length bytes.now }

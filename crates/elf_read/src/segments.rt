@@ -10,7 +10,7 @@ ghost use Rattle.elf_read.specs.parts.Passes.{Passes, Reads};
 
 use crate::error::ReadErr;
 use crate::fields::{e_phnum, e_phoff};
-use crate::refuse::refuse;
+use crate::refusals::refuse;
 use elf_model::constants::{
     E_PHNUM, EHDR_SIZE, MAX_SEGMENTS, P_ALIGN, P_FILESZ, P_FLAGS, P_MEMSZ, P_OFFSET, P_TYPE,
     P_VADDR, PHDR_SIZE, PT_LOAD, PT_TLS,

@@ -10,7 +10,7 @@ ghost use Rattle.elf_read.specs.parts.Passes.{Passes};
 
 use crate::error::ReadErr;
 use crate::held::is_writable_at;
-use crate::refuse::refuse;
+use crate::refusals::refuse;
 use elf_model::{ElfKind, ProgramHeader, Site};
 use fd_base::Memory;
 use std::alloc::Global;

@@ -10,7 +10,7 @@ ghost use Rattle.elf_read.specs.parts.Passes.{Reads};
 use crate::dynamic::{first_of, value_of};
 use crate::error::ReadErr;
 use crate::held::held_at;
-use crate::refuse::refusal;
+use crate::refusals::refusal;
 use elf_model::constants::{DT_STRSZ, DT_STRTAB};
 use elf_model::{DynEntry, ElfKind, ProgramHeader};
 use fd_base::{Memory, Name, NameErr};

@@ -12,7 +12,7 @@ ghost use Rattle.elf_read.specs.parts.Stages.{ReadsTableOf, ReadsSymbolTable};
 use crate::dynamic::first_of;
 use crate::error::ReadErr;
 use crate::held::{held_at, is_executable_at};
-use crate::refuse::{refusal, refuse};
+use crate::refusals::{refusal, refuse};
 use crate::sections::section_symbol_count;
 use crate::strings::{name_of, string_at};
 use elf_model::constants::{
@@ -129,7 +129,7 @@ pub fn read_symbol_table(
 
 /// The symbol at an offset of the file.
 #[tactic(auto, unfolding(elf_model::specs::Symbols::symbol_entry))]
-fn symbol_entry(bytes: &[u8], offset: usize) -> SymbolEntry
+pub fn symbol_entry(bytes: &[u8], offset: usize) -> SymbolEntry
     requires inside { offset + SYM_SIZE ≤ length bytes.now }
     requires small { length bytes.now < 2 ^ 32 }
     ensures { result ≡ spec.symbol_entry bytes.now offset }
@@ -146,7 +146,7 @@ fn symbol_entry(bytes: &[u8], offset: usize) -> SymbolEntry
 }
 
 /// Whether the symbol is a function that this object defines.
-fn is_defined_function(e: &SymbolEntry) -> bool
+pub fn is_defined_function(e: &SymbolEntry) -> bool
     ensures { result ≡ spec.is_defined_function e.now }
 {
     e.info % 16 == STT_FUNC && e.section != SHN_UNDEF
@@ -214,7 +214,7 @@ fn read_symbol(
 }
 
 /// Symbol 0, whatever its bytes.
-fn null_symbol() -> Symbol
+pub fn null_symbol() -> Symbol
     ensures { result ≡ spec.null_symbol }
 {
     Symbol {

@@ -9,7 +9,7 @@ ghost use Rattle.elf_read.specs.parts.Passes.{Reads};
 use crate::dynamic::{first_of, value_of};
 use crate::error::ReadErr;
 use crate::held::held_at;
-use crate::refuse::{refusal, refuse};
+use crate::refusals::{refusal, refuse};
 use elf_model::constants::{
     DT_JMPREL, DT_PLTRELSZ, DT_REL, DT_RELSZ, MAX_ENTRIES, R_INFO, R_OFFSET, REL_SIZE,
 };
@@ -81,7 +81,7 @@ fn range_of(
 
 /// The entry at an offset of the file.
 #[tactic(auto, unfolding(elf_model::specs::Relocations::rel_entry))]
-fn rel_entry(bytes: &[u8], table: RelTable, offset: usize) -> RelEntry
+pub fn rel_entry(bytes: &[u8], table: RelTable, offset: usize) -> RelEntry
     requires inside { offset + REL_SIZE ≤ length bytes.now }
     requires small { length bytes.now < 2 ^ 32 }
     ensures { result ≡ spec.rel_entry bytes.now table offset }

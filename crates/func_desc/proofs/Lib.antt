@@ -1,4 +1,6 @@
 pub mod Values
-pub mod Slotting
-pub mod Freeing
 pub mod Contained
+pub mod Looked
+pub mod Leaving
+pub mod Entered
+pub mod Kept

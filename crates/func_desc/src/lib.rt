@@ -1,6 +1,7 @@
 //! Descriptors of functions: one address for each function.
 #![tactic(auto)]
 
+mod buckets;
 mod laws;
 mod pool;
 mod slots;

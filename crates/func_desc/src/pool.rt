@@ -1,12 +1,10 @@
 //! The addresses of descriptors.
 
-use crate::slots::{
-    count_empty, empty_address, empty_slots, enter, entered_address_of, first_empty, slot_addr,
-    slot_address_of,
-};
+use crate::buckets::Entries;
+use crate::slots::Slots;
 use elf_model::Func;
 use fd_base::Memory;
-use std::alloc::Global;
+use std::alloc::{AllocError, Global};
 use std::marker::Model;
 
 /// No slot is free.
@@ -17,13 +15,12 @@ pub struct Full;
 /// adopted.
 #[derive(Drop)]
 pub struct DescPool {
-    base: u32,
-    slots: Vec<Option<Func>>,
-    adopted: Vec<(Func, u32)>,
+    slots: Slots,
+    entries: Entries,
 }
 
 impl Model for DescPool {
-    ghost use Rattle.std.specs.Prelude.{◌-◌, length, vec_len, vec_capacity};
+    ghost use Rattle.std.specs.Prelude.{◌-◌, length};
     ghost use Rattle.func_desc.specs.Pool.{Pool, pool_code};
     ghost use Rattle.func_desc.specs.parts.Inside.{addrs_of, IsKept};
 
@@ -32,31 +29,30 @@ impl Model for DescPool {
     ghost coded = { pool_code };
 
     ghost view = { λ p. record {
-      base = p.base;
-      slots = length p.slots.items;
-      addrs = addrs_of p.base p.slots.items p.adopted.items;
-      room = vec_capacity p.adopted - vec_len p.adopted;
+      base = p.slots.base;
+      slots = length p.slots.marks;
+      addrs = addrs_of p.entries.entries;
+      room = p.entries.spare - length p.slots.free;
     } };
 
-    ghost invariant = { λ p. IsKept p.base p.slots.items p.adopted.items };
+    ghost invariant = { λ p. IsKept p.slots.base (length p.slots.marks) p.entries.entries p.slots.free p.entries.spare };
 }
 
 impl DescPool {
     ghost use Rattle.std.specs.Prelude.{◌≡◌, ◌≢◌, ◌+◌, ◌-◌, ◌*◌, ◌^◌, ◌<◌, ◌≤◌, length, drop, slice_get, Some, None, IfOk, IfSome, IfNone, OnOk, OnErr, OnSome};
-    ghost use Rattle.std.specs.FinMap.{get, insert, empty};
+    ghost use Rattle.std.specs.FinMap.{get, insert, empty, len};
     ghost use Rattle.elf_model.specs.declared.func.Func.{Func};
     ghost use Rattle.func_desc.specs.Pool.{IsSlot, free_slots, address_for};
+    ghost use Rattle.func_desc.specs.parts.Dropped.{AreDropped};
 
     /// A pool of `slots` slots of 8 bytes, the first of which is at `base`. No function has an address.
     pub fn new(alloc: Global, base: u32, slots: u32) -> Result<DescPool, Memory>
         requires { base + 8 * slots < 2 ^ 32 }
         ensures { IfOk result (λ p. p ≡ record { base = base; slots = slots; addrs = empty; room = p.room }) }
     {
-        let slots = empty_slots(alloc, slots)?;
         Ok(DescPool {
-            base,
-            slots,
-            adopted: Vec::new(alloc),
+            slots: Slots::new(alloc, base, slots)?,
+            entries: Entries::new(alloc, slots)?,
         })
     }
 
@@ -65,17 +61,14 @@ impl DescPool {
         ensures value { result ≡ get self.now.addrs f.now }
         ensures distinct { IfSome result (λ a. (g : Func) → get self.now.addrs g ≡ Some a → g ≡ f.now) }
     {
-        match slot_address_of(self.base, &self.slots, f) {
-            Some(addr) => Some(addr),
-            None => entered_address_of(&self.adopted, f),
-        }
+        self.entries.find(f)
     }
 
     /// How many slots are free.
     pub fn free(&self) -> u32
         ensures { result ≡ length (free_slots self.now) }
     {
-        count_empty(&self.slots) as u32
+        self.slots.count()
     }
 
     /// The address of the free slot with `n` free ones below it: the one that `ensure` gives to the next
@@ -83,7 +76,7 @@ impl DescPool {
     pub fn free_at(&self, n: u32) -> Option<u32>
         ensures { result ≡ slice_get (free_slots self.now) n }
     {
-        empty_address(self.base, &self.slots, n)
+        self.slots.get(n)
     }
 
     /// Makes room for `n` adoptions at least.
@@ -92,7 +85,10 @@ impl DescPool {
         ensures grows { self.old.room ≤ self.new.room }
         ensures stays { self.new ≡ record self.old { room = self.new.room } }
     {
-        self.adopted.reserve(n as usize)
+        match self.slots.count().checked_add(n) {
+            Some(room) => self.entries.reserve(room),
+            None => Err(AllocError),
+        }
     }
 
     /// Gives a function without an address this one, which is no slot's and no other function's. Takes no
@@ -106,7 +102,7 @@ impl DescPool {
         ensures room { self.old.room ≤ self.new.room + 1 }
         ensures free { free_slots self.new ≡ free_slots self.old }
     {
-        enter(&mut self.adopted, *f, addr);
+        self.entries.enter(*f, addr);
     }
 
     /// A function's address. Where it has none it gets the lowest free slot; `Full` comes exactly where it has
@@ -122,10 +118,21 @@ impl DescPool {
         if let Some(addr) = self.get(f) {
             return Ok(addr);
         }
-        let Some(i) = first_empty(&self.slots) else {
+        let Some(addr) = self.slots.take() else {
             return Err(Full);
         };
-        self.slots[i] = Some(*f);
-        Ok(slot_addr(self.base, i))
+        self.entries.enter(*f, addr);
+        Ok(addr)
+    }
+
+    /// Takes out the functions of a module. Their slots are free from then on. Takes no memory.
+    pub fn drop_module(&mut self, number: u32)
+        ensures dropped { AreDropped number self.old.addrs self.new.addrs }
+        ensures stays { self.new ≡ record self.old { addrs = self.new.addrs; room = self.new.room } }
+        ensures room { self.new.room + length (free_slots self.new) + len self.new.addrs ≡ self.old.room + length (free_slots self.old) + len self.old.addrs }
+        ensures grows { self.old.room ≤ self.new.room }
+    {
+        self.entries.drop_module(number, &mut self.slots);
+        self.slots.free_unmarked();
     }
 }

@@ -1,117 +1,159 @@
-//! Slots by number, with the functions that have them, and entries of addresses elsewhere.
+//! Slots by number, and which of them are free.
 
-ghost use Rattle.std.specs.Prelude.{◌≡◌, ◌≤◌, ◌+◌, ◌*◌, ◌^◌, ◌<◌, length, count_by, false, is_none, slice_get, position, replicate, None, IfOk, [], ◌∷◌, ◌++◌, vec_len, vec_capacity};
-ghost use Rattle.std.specs.Option.{option_map_or};
-ghost use Rattle.std.specs.Ordering.{eq_by_cmp};
-ghost use Rattle.std.specs.FinMap.{find};
-ghost use Rattle.func_desc.specs.Functions.{func_cmp};
+ghost use Rattle.std.specs.Prelude.{◌≡◌, ◌≢◌, ◌+◌, ◌*◌, ◌^◌, ◌<◌, ◌≤◌, ◌∷◌, ◌++◌, [], ℕ, MatchOption, length, vec_len, vec_capacity};
 ghost use Rattle.func_desc.specs.Pool.{slot_addr};
-ghost use Rattle.func_desc.specs.parts.Inside.{slot_entries, free_from};
+ghost use Rattle.func_desc.specs.parts.Slots.{unmarked};
 
-use elf_model::Func;
 use fd_base::Memory;
 use std::alloc::Global;
+use std::marker::Model;
 
 /// The size of a descriptor, in bytes: the words of a function's address and of its GOT.
 pub const DESCRIPTOR_SIZE: u32 = 8;
 
 /// Where a slot is.
-pub(crate) fn slot_addr(base: u32, i: usize) -> u32
+fn slot_addr(base: u32, i: usize) -> u32
     requires { base + 8 * i < 2 ^ 32 }
     ensures { result ≡ slot_addr base i }
 {
     base + DESCRIPTOR_SIZE * i as u32
 }
 
-fn is_same(f: &Func, g: &Func) -> bool
-    ensures { result ≡ eq_by_cmp func_cmp f.now g.now }
+/// Which of so many slots is at an address.
+fn slot_at(base: u32, slots: usize, addr: u32) -> Option<usize>
+    ensures { MatchOption result ((i : ℕ) → i < slots → addr ≢ slot_addr base i) (λ i. (i < slots) × (addr ≡ slot_addr base i)) }
 {
-    f.module == g.module && f.value == g.value
-}
-
-fn is_held_by(slot: &Option<Func>, f: &Func) -> bool
-    ensures { result ≡ option_map_or (eq_by_cmp func_cmp f.now) slot.now false }
-{
-    match slot {
-        Some(own) => is_same(f, own),
-        None => false,
+    if addr < base || (addr - base) % DESCRIPTOR_SIZE != 0 {
+        return None;
     }
+    let i = ((addr - base) / DESCRIPTOR_SIZE) as usize;
+    if i < slots { Some(i) } else { None }
 }
 
-/// The address of the slot that a function has.
-pub(crate) fn slot_address_of(base: u32, slots: &[Option<Func>], f: &Func) -> Option<u32>
-    requires { base + 8 * length slots.now < 2 ^ 32 }
-    ensures { result ≡ find func_cmp f.now (slot_entries base 0 slots.now) }
+/// Adds an address to a list with room for it.
+fn put(listed: &mut Vec<u32>, addr: u32)
+    requires { vec_len listed.old < vec_capacity listed.old }
+    ensures items { listed.new.items ≡ listed.old.items ++ addr ∷ [] }
+    ensures len { vec_len listed.new ≡ vec_len listed.old + 1 }
+    ensures capacity { vec_capacity listed.old ≤ vec_capacity listed.new }
 {
-    for (i, slot) in slots.iter().enumerate() {
-        if is_held_by(slot, f) {
-            return Some(slot_addr(base, i));
-        }
-    }
-    None
-}
-
-/// The address that is entered for a function.
-pub(crate) fn entered_address_of(entries: &[(Func, u32)], f: &Func) -> Option<u32>
-    ensures { result ≡ find func_cmp f.now entries.now }
-{
-    for entry in entries {
-        if is_same(f, &entry.0) {
-            return Some(entry.1);
-        }
-    }
-    None
-}
-
-/// Enters an address for a function. There is room for it.
-pub(crate) fn enter(entries: &mut Vec<(Func, u32)>, f: Func, addr: u32)
-    requires { vec_len entries.old < vec_capacity entries.old }
-    ensures items { entries.new.items ≡ entries.old.items ++ (f, addr) ∷ [] }
-    ensures len { vec_len entries.new ≡ vec_len entries.old + 1 }
-    ensures capacity { vec_capacity entries.old ≤ vec_capacity entries.new }
-{
-    match entries.push((f, addr)) {
+    match listed.push(addr) {
         Ok(()) => {}
         Err(_) => unreachable!(),
     }
 }
 
-/// The address of the empty slot with `n` empty ones below it.
-pub(crate) fn empty_address(base: u32, slots: &[Option<Func>], n: u32) -> Option<u32>
-    requires { base + 8 * length slots.now < 2 ^ 32 }
-    ensures { result ≡ slice_get (free_from base 0 slots.now) n }
+/// Lists the addresses of the slots without a mark, the lowest first. The list has room for all.
+fn list_unmarked(listed: &mut Vec<u32>, base: u32, marks: &[bool])
+    requires end { base + 8 * length marks.now < 2 ^ 32 }
+    requires room { length marks.now ≤ vec_capacity listed.old }
+    ensures items { listed.new.items ≡ unmarked base 0 marks.now }
+    ensures len { vec_len listed.new ≤ length marks.now }
+    ensures capacity { vec_capacity listed.old ≤ vec_capacity listed.new }
 {
-    let mut left = n;
-    for (i, slot) in slots.iter().enumerate() {
-        if slot.is_some() {
-            continue;
+    listed.clear();
+    for (i, marked) in marks.iter().enumerate() {
+        if !*marked {
+            put(listed, slot_addr(base, i));
         }
-        if left == 0 {
-            return Some(slot_addr(base, i));
-        }
-        left -= 1;
     }
-    None
 }
 
-/// The number of the first empty slot.
-pub(crate) fn first_empty(slots: &[Option<Func>]) -> Option<usize>
-    ensures { result ≡ position is_none slots.now }
-{
-    slots.iter().position(|slot| slot.is_none())
+/// Slots of which some are free, and a mark for each. Only `new` takes memory.
+#[derive(Drop)]
+pub(crate) struct Slots {
+    base: u32,
+    marks: Vec<bool>,
+    /// The slots that were free when they were listed, the lowest first.
+    listed: Vec<u32>,
+    /// How many of these are taken.
+    taken: usize,
 }
 
-/// How many slots are empty.
-pub(crate) fn count_empty(slots: &[Option<Func>]) -> usize
-    ensures { result ≡ count_by is_none slots.now }
-{
-    slots.iter().filter(|slot| slot.is_none()).count()
+impl Model for Slots {
+    ghost use Rattle.std.specs.Prelude.{drop, vec_len, vec_capacity};
+    ghost use Rattle.func_desc.specs.parts.Slots.{Slots, IsListed};
+
+    ghost Value = { Slots };
+
+    ghost view = { λ s. record {
+      base = s.base;
+      marks = s.marks.items;
+      free = drop s.taken s.listed.items;
+    } };
+
+    ghost invariant = { λ s. IsListed s.base s.marks.items (vec_len s.listed) (vec_capacity s.listed) s.taken };
 }
 
-/// Empty slots.
-pub(crate) fn empty_slots(alloc: Global, n: u32) -> Result<Vec<Option<Func>>, Memory>
-    ensures { IfOk result (λ slots. slots.items ≡ replicate n None) }
-{
-    let slots = vec![in alloc; None; n as usize]?;
-    Ok(slots)
+impl Slots {
+    ghost use Rattle.std.specs.Prelude.{◌≡◌, ◌+◌, ◌*◌, ◌^◌, ◌<◌, ◌==◌, ◌||◌, ℕ, IfOk, drop, false, length, map, replicate, slice_get, slice_index_or};
+    ghost use Rattle.std.specs.List.{range_with_len};
+    ghost use Rattle.func_desc.specs.Pool.{slot_addr};
+    ghost use Rattle.func_desc.specs.parts.Slots.{unmarked};
+
+    /// So many free slots, the first of which is at `base`.
+    pub(crate) fn new(alloc: Global, base: u32, slots: u32) -> Result<Slots, Memory>
+        requires { base + 8 * slots < 2 ^ 32 }
+        ensures { IfOk result (λ s. s ≡ record { base = base; marks = replicate slots false; free = unmarked base 0 (replicate slots false) }) }
+    {
+        let marks = vec![in alloc; false; slots as usize]?;
+        let mut listed = Vec::with_capacity(alloc, marks.len())?;
+        list_unmarked(&mut listed, base, &marks);
+        Ok(Slots {
+            base,
+            marks,
+            listed,
+            taken: 0,
+        })
+    }
+
+    /// How many slots are free.
+    pub(crate) fn count(&self) -> u32
+        ensures { result ≡ length self.now.free }
+    {
+        (self.listed.len() - self.taken) as u32
+    }
+
+    /// The free slot with `n` free ones below it.
+    pub(crate) fn get(&self, n: u32) -> Option<u32>
+        ensures { result ≡ slice_get self.now.free n }
+    {
+        self.listed.get(self.taken + n as usize).copied()
+    }
+
+    /// Takes the lowest free slot.
+    pub(crate) fn take(&mut self) -> Option<u32>
+        ensures lowest { result ≡ slice_get self.old.free 0 }
+        ensures rest { self.new ≡ record self.old { free = drop 1 self.old.free } }
+    {
+        let addr = self.get(0)?;
+        self.taken += 1;
+        Some(addr)
+    }
+
+    /// Takes all marks away.
+    pub(crate) fn unmark(&mut self)
+        ensures { self.new ≡ record self.old { marks = replicate (length self.old.marks) false } }
+    {
+        self.marks.fill(false);
+    }
+
+    /// Marks the slot at an address, where there is one.
+    pub(crate) fn mark(&mut self, addr: u32)
+        ensures stays { self.new ≡ record self.old { marks = self.new.marks } }
+        ensures count { length self.new.marks ≡ length self.old.marks }
+        ensures marked { (i : ℕ) → i < length self.old.marks → slice_index_or self.new.marks i false ≡ (addr == slot_addr self.old.base i || slice_index_or self.old.marks i false) }
+    {
+        if let Some(i) = slot_at(self.base, self.marks.len(), addr) {
+            self.marks[i] = true;
+        }
+    }
+
+    /// Makes the slots without a mark the free ones.
+    pub(crate) fn free_unmarked(&mut self)
+        ensures { self.new ≡ record self.old { free = unmarked self.old.base 0 self.old.marks } }
+    {
+        list_unmarked(&mut self.listed, self.base, &self.marks);
+        self.taken = 0;
+    }
 }

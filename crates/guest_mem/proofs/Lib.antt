@@ -6,3 +6,4 @@ pub mod Reading
 pub mod Writing
 pub mod Keeping
 pub mod Ranged
+pub mod Tagged

@@ -87,10 +87,13 @@ allowed_at allowed width count m a k h l l' =
     let none : first_outside allowed m a count ≡ None = fault_at-none _ (or_then-none (unaligned width a) _ h).1 in
     not-false (allowed (kind_at m k)) (first_from-none_at (λ b. not (allowed (kind_at m b))) a count k none l l')
 
--- what is read lies inside
-pub read_refusal-inside : (width count : ℕ) (m : GuestMemory) (a : ℕ) → 0 < count → read_refusal is_mapped_as width count m a ≡ None → a + count ≤ length m.kinds
+-- what is granted lies inside
+pub granted_inside : (allowed : Option MemKind → Bool) → allowed None ≡ false → (width count : ℕ) (m : GuestMemory) (a : ℕ) → 0 < count → read_refusal allowed width count m a ≡ None → a + count ≤ length m.kinds
 unfolding read_refusal
-read_refusal-inside width count m a p h = inside is_mapped_as refl m.kinds a count (fault_at-none _ (or_then-none (unaligned width a) _ h).1) p
+granted_inside allowed none width count m a p h = inside allowed none m.kinds a count (fault_at-none _ (or_then-none (unaligned width a) _ h).1) p
+
+pub read_refusal-inside : (width count : ℕ) (m : GuestMemory) (a : ℕ) → 0 < count → read_refusal is_mapped_as width count m a ≡ None → a + count ≤ length m.kinds
+read_refusal-inside width count m a p h = granted_inside is_mapped_as refl width count m a p h
 
 pub read_of-inside : (width : ℕ) (m : GuestMemory) (a v : ℕ) → 0 < width → read_of width m a ≡ Ok v → a + width ≤ length m.kinds
 read_of-inside width m a v p h = read_refusal-inside width width m a p (read_of-answered width m a v h).0

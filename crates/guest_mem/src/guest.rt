@@ -4,12 +4,14 @@ ghost use Rattle.std.specs.Prelude.{◌≡◌, ℕ, ◌+◌, ◌*◌, ◌<◌, �
 ghost use Rattle.guest_mem.specs.Memory.{IsMemory, IsBytes, HaveKind, AreMapped, blank, byte_at};
 ghost use Rattle.guest_mem.specs.Accesses.{with_bytes, read_refusal, write_refusal, read8_of, read16_of, read32_of, fetch_of, read_words_of, write_of, write8_of, write16_of, write32_of, write_words_of};
 ghost use Rattle.guest_mem.specs.parts.Answered.{IsRefused, IsWritten, is_asked};
+ghost use Rattle.guest_mem.specs.parts.Tags.{Knows};
 ghost use Rattle.guest_mem.specs.Ranges.{with_kind, with_marks};
 ghost use Rattle.guest_mem.specs.declared.kind.MemKind.TheVariants.{Data};
 
 use crate::bytes::{are_bytes, byte_len, fill, get_words, paste, put_words};
 use crate::kind::{Access, MemKind};
 use crate::search::{Asked, first_outside, first_watched};
+use crate::tags::{WordTag, is_enough, retag, shared_tag, tag_at, tag_of};
 use fd_base::{Memory, half_in, word_in};
 use std::alloc::Global;
 use std::marker::Model;
@@ -21,6 +23,7 @@ pub struct Guest {
     bytes: Vec<u8>,
     kinds: Vec<Option<MemKind>>,
     marks: Vec<bool>,
+    tags: Vec<WordTag>,
 }
 
 impl Model for Guest {
@@ -44,10 +47,12 @@ impl Guest {
         let bytes = vec![in alloc; 0u8; len]?;
         let kinds = vec![in alloc; None; len]?;
         let marks = vec![in alloc; false; len]?;
+        let tags = vec![in alloc; WordTag::Mixed; (len + 3) / 4]?;
         Ok(Guest {
             bytes,
             kinds,
             marks,
+            tags,
         })
     }
 
@@ -83,6 +88,7 @@ impl Guest {
     {
         fill(&mut self.kinds, start as usize, len as usize, kind);
         fill(&mut self.marks, start as usize, len as usize, false);
+        retag(&mut self.tags, start, len, tag_of(kind));
     }
 
     /// Watches a range of mapped Data from now on: writes there are refused.
@@ -92,6 +98,7 @@ impl Guest {
         ensures { self.new ≡ with_marks self.old start len }
     {
         fill(&mut self.marks, start as usize, len as usize, true);
+        retag(&mut self.tags, start, len, WordTag::Readable);
     }
 
     /// The byte at an address, whatever it is mapped as.
@@ -212,9 +219,40 @@ impl Guest {
         Ok(())
     }
 
+    /// What a tag tells of an access.
     #[inline]
-    #[tactic(auto, unfolding(crate::specs::Accesses::read_refusal))]
+    fn known(&self, width: u32, addr: u32, count: u32) -> WordTag
+        requires { 0 < width }
+        ensures { Knows result width count self.now addr }
+    {
+        if addr % width != 0 {
+            return WordTag::Mixed;
+        }
+        let word = (addr / 4) as usize;
+        let within = (addr % 4) as usize + count as usize;
+        if within <= 4 {
+            tag_at(&self.tags, word)
+        } else {
+            shared_tag(&self.tags, word, (within + 3) / 4)
+        }
+    }
+
+    #[inline]
     fn check(&self, asked: Asked, width: u32, addr: u32, count: u32) -> Result<(), Access>
+        requires width { 0 < width }
+        requires some { 0 < count }
+        ensures refusal { IsRefused result (read_refusal (is_asked asked) width count self.now addr) }
+        ensures inside { OnOk result (addr + count ≤ length self.now.bytes) }
+    {
+        self.whole();
+        if is_enough(self.known(width, addr, count), asked) {
+            return Ok(());
+        }
+        self.check_bytes(asked, width, addr, count)
+    }
+
+    #[tactic(auto, unfolding(crate::specs::Accesses::read_refusal))]
+    fn check_bytes(&self, asked: Asked, width: u32, addr: u32, count: u32) -> Result<(), Access>
         requires width { 0 < width }
         requires some { 0 < count }
         ensures refusal { IsRefused result (read_refusal (is_asked asked) width count self.now addr) }
@@ -230,14 +268,27 @@ impl Guest {
     }
 
     #[inline]
-    #[tactic(auto, unfolding(crate::specs::Accesses::write_refusal))]
     fn check_write(&self, width: u32, addr: u32, count: u32) -> Result<(), Access>
         requires width { 0 < width }
         requires some { 0 < count }
         ensures refusal { IsRefused result (write_refusal width count self.now addr) }
         ensures inside { OnOk result (addr + count ≤ length self.now.bytes) }
     {
-        self.check(Asked::Mapped, width, addr, count)?;
+        self.whole();
+        match self.known(width, addr, count) {
+            WordTag::Plain => Ok(()),
+            _ => self.check_written_bytes(width, addr, count),
+        }
+    }
+
+    #[tactic(auto, unfolding(crate::specs::Accesses::write_refusal))]
+    fn check_written_bytes(&self, width: u32, addr: u32, count: u32) -> Result<(), Access>
+        requires width { 0 < width }
+        requires some { 0 < count }
+        ensures refusal { IsRefused result (write_refusal width count self.now addr) }
+        ensures inside { OnOk result (addr + count ≤ length self.now.bytes) }
+    {
+        self.check_bytes(Asked::Mapped, width, addr, count)?;
         match first_watched(&self.kinds, &self.marks, addr, count) {
             Some(at) => Err(Access::Stray(at)),
             None => Ok(()),

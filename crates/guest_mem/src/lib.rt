@@ -6,6 +6,7 @@ mod guest;
 mod kind;
 mod laws;
 mod search;
+mod tags;
 
 pub use guest::Guest;
 pub use kind::{Access, MemKind};

@@ -5,3 +5,4 @@ pub mod Entered
 pub mod Keeping
 pub mod Changing
 pub mod Owned
+pub mod Walked

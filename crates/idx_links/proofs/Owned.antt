@@ -36,7 +36,7 @@ module _ {T : Type 0} where
   ]
 
   -- a node is what is found at its id
-  found_itself : (n : Node T) (order : List (Node T)) → AllPairs ◌≢◌ (ids order) → Contains order n → find (λ other. other.id == n.id) order ≡ Some n
+  pub found_itself : (n : Node T) (order : List (Node T)) → AllPairs ◌≢◌ (ids order) → Contains order n → find (λ other. other.id == n.id) order ≡ Some n
   found_itself n [] once there = absurd (nothing_in n there)
   found_itself n (first ∷ order) once there = elim (first_or_later first n order there) [
     | inl is ↦ rw (eq-eqb first.id n.id (ap (λ m. m.id) is)) (ap Some is)
@@ -86,6 +86,18 @@ module _ {T : Type 0} where
     chains-without id there =
         sym (less-set nodes.chains owner id (λ m in_m. same_owner (node_at nodes id) owner m ((tied.chained owner id).0 there) ((tied.chained m id).0 in_m)))
 
+  ids-without : (id : ℕ) (order : List (Node T)) → ids (without (λ n. n.id) id order) ≡ less id (ids order)
+  ids-without id [] = refl
+  ids-without id (n ∷ order) = elim (cases_eq n.id id) [
+    | inl is ↦ rw (eq-eqb n.id id is, ids-without id order)
+    | inr differ ↦ rw (ne_eqb n.id id differ, ids-without id order)
+  ]
+
+  length-without : (id : ℕ) (order : List (Node T)) → AllPairs ◌≢◌ (ids order) → Contains (ids order) id → length (without (λ n. n.id) id order) + 1 ≡ length order
+  length-without id order once there =
+      let fewer = without (λ (n : Node T). n.id) id order in
+      omega (arith, length-less id (ids order) once there, ap length (ids-without id order), length-map fewer (λ n. n.id), length-map order (λ n. n.id))
+
   -- ---- the loop that removes an owner's nodes
 
   -- some of an owner's nodes went, and no others
@@ -94,6 +106,7 @@ module _ {T : Type 0} where
     pub order : others owner now.order ≡ others owner old.order
     pub spare : now.spare + length (chain_of now owner) ≡ old.spare + length (chain_of old owner)
     pub counted : count + length (chain_of now owner) ≡ length (chain_of old owner)
+    pub total : length now.order + now.spare ≡ length old.order + old.spare
 
   pub HasLeft-none : (owner : ℕ) (old : Nodes T) → HasLeft owner old old 0
   HasLeft-none owner old = record {
@@ -101,6 +114,7 @@ module _ {T : Type 0} where
     order = refl;
     spare = refl;
     counted = omega arith;
+    total = refl;
   }
 
   module _ (owner : ℕ) (old now : Nodes T) (count id : ℕ) (left : HasLeft owner old now count) (tied : AreTied now) (first : slice_get (chain_of now owner) 0 ≡ Some id) where
@@ -135,6 +149,7 @@ module _ {T : Type 0} where
       order = others-without now tied owner id there ∙ left.order;
       spare = omega (arith, fewer, left.spare);
       counted = omega (arith, fewer, left.counted);
+      total = omega (arith, length-without id now.order tied.distinct left_live, left.total);
     }
 
   -- once none is left

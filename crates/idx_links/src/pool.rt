@@ -90,6 +90,13 @@ impl<T: Copy> Pool<T> {
         Ok(())
     }
 
+    /// How many nodes there are.
+    pub fn len(&self) -> u32
+        ensures { result ≡ length self.now.order }
+    {
+        self.entries.len() as u32 - self.spare
+    }
+
     /// Puts a new node right behind a live one, or at the front, and answers its id. It becomes its owner's newest.
     pub fn insert_after(&mut self, at: Option<u32>, owner: u32, value: T) -> u32
         requires room { 0 < self.old.spare }
@@ -193,6 +200,7 @@ impl<T: Copy> Pool<T> {
         requires { owner < length self.old.chains }
         ensures count { result ≡ length (chain_of self.old owner) }
         ensures removed { self.new ≡ without_owner owner self.old }
+        ensures total { length self.new.order + self.new.spare ≡ length self.old.order + self.old.spare }
     {
         let mut count = 0;
         while let Some(id) = self.first_of(owner) {

@@ -1,2 +1,3 @@
 pub mod EntryExamples
+pub mod NewPools
 pub mod SiteObjects

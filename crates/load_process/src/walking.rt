@@ -1,6 +1,6 @@
 //! The walk over the modules that a load adds.
 
-ghost use Rattle.std.specs.Prelude.{◌≡◌, ◌≢◌, ◌≤◌, ◌<◌, ◌+◌, ◌⊎◌, ℕ, true, map, Contains, slice_get, List, [], ◌∷◌, length, All, AllPairs, IfOk, IfErr, OnOk, None, false};
+ghost use Rattle.std.specs.Prelude.{◌≡◌, ◌≢◌, ◌≤◌, ◌<◌, ◌+◌, ◌^◌, ◌⊎◌, ℕ, true, map, Contains, slice_get, List, [], ◌∷◌, length, Some, All, AllPairs, IfOk, IfErr, OnOk, None, false};
 ghost use Rattle.std.specs.List.{filter_map};
 ghost use Rattle.load_process.specs.parts.TakenObjects.{IsTaken};
 ghost use Rattle.symbol_scope.specs.declared.tables.TheConstants.{MAX_MODULES};
@@ -10,27 +10,35 @@ ghost use Rattle.load_model.specs.Walk.{number_among, IsWalk, IsWalkRefused};
 ghost use Rattle.load_process.specs.parts.WalkSteps.{IsNumbered};
 
 use crate::added::Walk;
-use crate::found::add_new;
+use crate::found::{add_new, add_one};
 use crate::numbers::{free_numbers, needed_by};
 use crate::step::look_at;
 use fd_base::{Memory, Name, Numbers, Seq, Store};
+use indexmap::IndexSet;
 use load_model::{Joining, LoadErr, SymbolicProcess};
 use std::alloc::Global;
 
 /// The name of the root alone.
-fn first(alloc: Global, root: &Name) -> Result<Vec<Name>, Memory>
-    ensures { IfOk result (λ names. names.items ≡ root.now ∷ []) }
+fn first(alloc: Global, root: &Name) -> Result<IndexSet<Name>, Memory>
+    ensures { IfOk result (λ names. names.keys ≡ root.now ∷ []) }
 {
-    let mut names = Vec::new(alloc);
-    names.push(root.copy(alloc)?)?;
+    let mut names = IndexSet::new(alloc);
+    add_one(alloc, &mut names, root)?;
     Ok(names)
+}
+
+fn name_at(names: &IndexSet<Name>, place: usize) -> &Name
+    requires { place < length names.now.keys }
+    ensures { slice_get names.now.keys place ≡ Some result.now }
+{
+    &names.as_slice()[place]
 }
 
 /// How far a walk has come.
 #[derive(Drop)]
 struct Steps {
     /// The names that were found, each once, in the order of the walk.
-    names: Vec<Name>,
+    names: IndexSet<Name>,
     /// How many of them were looked at.
     next: usize,
     /// The new modules among those, in order.
@@ -49,15 +57,16 @@ fn advance<S: Store>(
 ) -> Result<(), LoadErr>
     requires sizes { length process.now.modules ≤ MAX_MODULES }
     requires free { free.now ≡ free_numbers process.now }
-    requires within { steps.old.next < length steps.old.names.items }
+    requires within { steps.old.next < length steps.old.names.keys }
+    requires small { steps.old.next < 2 ^ 63 }
     requires sound { All (λ j. IsTaken j.object) steps.old.joining }
     ensures numbered { OnOk result ((root : List ℕ)
-        → IsNumbered process.now (S.files store.old) root steps.old.next steps.old.joining steps.old.names.items steps.old.members
-        → IsNumbered process.now (S.files store.old) root (steps.old.next + 1) steps.new.joining steps.new.names.items steps.new.members) }
+        → IsNumbered process.now (S.files store.old) root steps.old.next steps.old.joining steps.old.names.keys steps.old.members
+        → IsNumbered process.now (S.files store.old) root (steps.old.next + 1) steps.new.joining steps.new.names.keys steps.new.members) }
     ensures next { OnOk result (steps.new.next ≡ steps.old.next + 1) }
     ensures sound { OnOk result (All (λ j. IsTaken j.object) steps.new.joining) }
     ensures error { IfErr result (λ e. (root : List ℕ)
-        → IsNumbered process.now (S.files store.old) root steps.old.next steps.old.joining steps.old.names.items steps.old.members
+        → IsNumbered process.now (S.files store.old) root steps.old.next steps.old.joining steps.old.names.keys steps.old.members
         → Explains (IsWalkRefused process.now (S.files store.old) root) (S.faults store.old) (S.faults store.new) e) }
     ensures files { S.files store.new ≡ S.files store.old }
     ensures count { S.faults store.old ≤ S.faults store.new }
@@ -68,11 +77,12 @@ fn advance<S: Store>(
         process,
         store,
         free,
-        &steps.names[next],
+        name_at(&steps.names, next),
         &mut steps.joining,
     )?;
     steps.members.push(number)?;
-    let needed = needed_by(process, steps.joining.as_slice(), &steps.names[next]);
+    let name = name_at(&steps.names, next);
+    let needed = needed_by(process, steps.joining.as_slice(), name);
     add_new(alloc, &mut steps.names, needed)?;
     steps.next = next + 1;
     Ok(())

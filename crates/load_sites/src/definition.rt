@@ -1,6 +1,6 @@
 //! What symbols mean.
 
-ghost use Rattle.std.specs.Prelude.{◌≡◌, ◌≤◌, ◌^◌, [], length, unwrap_or, Some, ◌==◌, ◌<◌, IfSome};
+ghost use Rattle.std.specs.Prelude.{◌≡◌, [], unwrap_or, Some, ◌==◌};
 ghost use Rattle.std.specs.Option.{option_copied};
 ghost use Rattle.symbol_scope.specs.Definition.{first_definition};
 ghost use Rattle.symbol_scope.specs.Exported as exported;
@@ -13,7 +13,7 @@ use elf_model::constants::{STB_LOCAL, STB_WEAK, STT_SECTION, STV_DEFAULT};
 use elf_model::{Object, Place, Symbol};
 use fd_base::{Name, Numbers};
 use load_model::Definition;
-use symbol_scope::{Found, Tables, exports_are_first, is_exported};
+use symbol_scope::{Found, Tables, exports_are_first};
 
 fn is_defined(place: Place) -> bool
     ensures { result ≡ exported.is_defined place }
@@ -30,35 +30,6 @@ pub(crate) fn is_own(symbol: &Symbol) -> bool
         || (is_defined(symbol.place) && symbol.visibility != STV_DEFAULT)
 }
 
-/// Whether it is an exported definition of the name.
-fn exports_as(symbol: &Symbol, name: &Name) -> bool
-    ensures { result ≡ exported.exports_as name.now symbol.now }
-{
-    let is_named = match &symbol.name {
-        Some(own) => name.as_slice() == own.as_slice(),
-        None => false,
-    };
-    is_exported(symbol) && is_named
-}
-
-fn place_of(symbols: &[Symbol], name: &Name) -> Option<usize>
-    ensures value { result ≡ exported.first_export symbols.now name.now }
-    ensures within { IfSome result (λ place. place < length symbols.now) }
-{
-    symbols.iter().position(|symbol| exports_as(symbol, name))
-}
-
-/// The number of the first exported definition of a name.
-fn first_export(symbols: &[Symbol], name: &Name) -> Option<u32>
-    requires { length symbols.now ≤ 2 ^ 32 }
-    ensures { result ≡ exported.first_export symbols.now name.now }
-{
-    match place_of(symbols, name) {
-        Some(place) => Some(place as u32),
-        None => None,
-    }
-}
-
 /// The first definition of a name in a scope.
 fn find_in(tables: &Tables, scope: Option<&Numbers>, name: &Name) -> Option<Found>
     ensures { result ≡ first_definition (export_in tables.now.slots name.now) (unwrap_or (option_copied scope.entry) []) }
@@ -72,8 +43,8 @@ impl<'a> Linker<'a> {
         requires { IsReady self.now }
         ensures { result ≡ spec.export_of (linkage self.now) name.now m }
     {
-        let object = self.object(m)?;
-        first_export(object.symbols.as_slice(), name)
+        exports_are_first();
+        self.tables.export_in(m, name)
     }
 
     /// The first definition of a name in a module's own scope.

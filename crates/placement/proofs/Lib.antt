@@ -1,3 +1,5 @@
 pub mod Rounding
 pub mod Placing
 pub mod Order
+pub mod Rising
+pub mod Holding

@@ -1,5 +1,5 @@
 -- Held ranges in another order, and ranges that meet nowhere.
-use Rattle.std.proofs.Common.{◌≡◌, ℕ, zero, suc, Option, Some, None, MatchOption, ◌≤◌, inl, inr, true, false, cond, ltb, List, [], ◌∷◌, ◌++◌, All, Contains, refl, sym, subst, arith}
+use Rattle.std.proofs.Common.{◌≡◌, ℕ, zero, suc, Option, Some, None, MatchOption, ◌≤◌, inl, inr, true, false, cond, ltb, List, [], ◌∷◌, ◌++◌, All, Contains, drop, refl, sym, subst, arith}
 use Rattle.std.proofs.lemmas.List.Elements.{All-nil, All-head, All-tail, All-weaker, All-contains, All-contains_itself, All-push, Contains-append_left, Contains-append_right, Contains-append_cases, Contains-push, Contains-push_cases}
 use Rattle.std.proofs.lemmas.List.{append-nil, append_assoc}
 use Rattle.fd_base.proofs.Members.{contains_first, contains_later, first_or_later}
@@ -8,6 +8,7 @@ use Rattle.placement.specs.declared.item.Item.{Item}
 use Rattle.placement.specs.Legal.{Apart, IsLegal, Chosen}
 use Rattle.placement.specs.Placed.{Placed, FailsAt, range_at}
 use Rattle.placement.specs.Space.{held_with, all_held, ranges_at, AreApart, SameRanges}
+use Rattle.placement.proofs.Placing.{Kept}
 
 -- what holds of all ranges holds of those that are among them
 all_among : (P : Held → Type 0) (xs ys : List Held) → ((r : Held) → Contains ys r → Contains xs r) → All P xs → All P ys
@@ -106,6 +107,10 @@ same_with new held = λ r. (back r, held_or_new new r held)
           | inr is ↦ subst (Contains (held_with new held)) is (new_held new held)
         ]
 
+-- what holds of all ranges and of a new one holds of all then
+pub all_with : (P : Held → Type 0) (new : Held) (held : List Held) → All P held → P new → All P (held_with new held)
+all_with P new held all here = all_among P (held ++ new ∷ []) (held_with new held) (λ r. held_or_new new r held) (All-push P held new all here)
+
 turned : (a b : Held) → Apart a.start a.len b → Apart b.start b.len a
 turned a b apart = elim apart [ inl h ↦ inr h | inr h ↦ inl h ]
 
@@ -115,12 +120,20 @@ apart_with new [] away apart = (All-nil (Apart new.start new.len), tt)
 apart_with new (first ∷ held) away apart =
     elim (ltb first.start new.start) as (λ b. AreApart (cond b (first ∷ held_with new held) (new ∷ first ∷ held))) [
       | true ↦ (
-        all_among (Apart first.start first.len) (held ++ new ∷ []) (held_with new held) (λ r. held_or_new new r held)
-            (All-push (Apart first.start first.len) held new apart.0 (turned new first (All-head (Apart new.start new.len) first held away))),
+        all_with (Apart first.start first.len) new held apart.0 (turned new first (All-head (Apart new.start new.len) first held away)),
         apart_with new held (All-tail (Apart new.start new.len) first held away) apart.1,
       )
       | false ↦ (away, apart)
     ]
+
+-- a new range is held in its place
+pub Kept-with : (low high : ℕ) (taken before : List Held) (new : Held) (items : List Item) (addrs : List ℕ) (i : ℕ) → Kept low high (taken ++ new ∷ []) before items addrs i → Kept low high (held_with new taken) before items addrs i
+Kept-with low high taken before new items addrs i kept =
+    let same : SameRanges (held_with new taken) (taken ++ new ∷ []) = λ r. let there = same_with new taken r in (there.1, there.0) in
+    record {
+      placed = λ rest h. kept.placed rest (placed_same low high (held_with new taken) (taken ++ new ∷ []) (drop i items) rest same h);
+      fails = λ n h. kept.fails n (fails_same low high (held_with new taken) (taken ++ new ∷ []) (drop i items) n same h);
+    }
 
 pub apart_all : (low high : ℕ) (held : List Held) (items : List Item) (addrs : List ℕ) → AreApart held → Placed low high held items addrs → AreApart (all_held items addrs held)
 apart_all low high held [] addrs apart p = apart

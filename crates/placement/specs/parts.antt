@@ -1,2 +1,4 @@
 -- What contracts inside the program say: the contract of the top call cites none of it.
+pub mod Extents
 pub mod Refusals
+pub mod Rising

@@ -1,6 +1,7 @@
 //! Where segments may lie: lowest legal addresses, and the ranges that are held.
 #![tactic(auto)]
 
+mod extents;
 mod item;
 mod laws;
 mod ranges;

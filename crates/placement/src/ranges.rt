@@ -1,14 +1,17 @@
 //! The ranges that are held, and the plan of more.
 
-ghost use Rattle.std.specs.Prelude.{◌≡◌, ◌+◌, ◌-◌, ◌^◌, ◌<◌, ◌≤◌, [], length, All, vec_len, vec_capacity, IfOk, IfErr, OnOk, insert, filter, not, ◌==◌};
+ghost use Rattle.std.specs.Prelude.{◌≡◌, ◌+◌, ◌-◌, ◌^◌, ◌<◌, ◌≤◌, [], length, All, IfOk, IfErr, OnOk, filter, insert, not, ◌==◌};
 ghost use Rattle.std.specs.List.{AllZip};
 ghost use Rattle.placement.specs.Placed.{LiesWithin, Placed};
 ghost use Rattle.placement.specs.Space.{Space, IsOwned, held_with, all_held, IsPlaced};
 ghost use Rattle.placement.specs.parts.Refusals.{RefusesItems};
+ghost use Rattle.placement.specs.parts.Rising.{AreRising};
 
+use crate::extents::{Extent, drop_owner, hold_all, listed};
 use crate::item::{Addrs, Held, Item, Items};
 use crate::search::address_of;
 use fd_base::{Memory, Seq};
+use idx_links::Pool;
 use std::alloc::{AllocError, AllocFailed, Global};
 use std::marker::Model;
 
@@ -43,26 +46,32 @@ impl<T: Drop> From<AllocFailed<T>> for PlaceErr {
     }
 }
 
-/// The held ranges between a low and a high address.
+/// The numbers below this one are owners.
+const OWNERS: u32 = 512;
+
+/// The held ranges between a low and a high address: nodes by rising start, with a chain for each owner.
 #[derive(Drop)]
 pub struct Ranges {
+    alloc: Global,
     low: u32,
     high: u32,
-    held: Vec<Held>,
+    held: Pool<Extent>,
 }
 
 impl Model for Ranges {
-    ghost use Rattle.std.specs.Prelude.{◌-◌, vec_len, vec_capacity};
     ghost use Rattle.placement.specs.Space.{Space};
+    ghost use Rattle.placement.specs.parts.Extents.{ranges_of, AreKept};
 
     ghost Value = { Space };
 
     ghost view = { λ r. record {
       low = r.low;
       high = r.high;
-      held = r.held.items;
-      room = vec_capacity r.held - vec_len r.held;
+      held = ranges_of r.held;
+      room = r.held.spare;
     } };
+
+    ghost invariant = { λ r. AreKept r.held };
 }
 
 impl Ranges {
@@ -71,9 +80,10 @@ impl Ranges {
         ensures { IfOk result (λ r. r ≡ record { low = low; high = high; held = []; room = r.room }) }
     {
         Ok(Ranges {
+            alloc,
             low,
             high,
-            held: Vec::new(alloc),
+            held: Pool::new(alloc, OWNERS)?,
         })
     }
 
@@ -92,9 +102,9 @@ impl Ranges {
         ensures grows { self.old.room ≤ self.new.room }
         ensures stays { self.new ≡ record self.old { room = self.new.room } }
     {
-        let mut taken = self.held.clone()?;
+        let mut taken = listed(self.alloc, &self.held)?;
         let addrs = addresses(self.low, self.high, &mut taken, items.as_slice())?;
-        self.held.reserve(items.len())?;
+        self.held.reserve(items.len() as u32)?;
         Ok(Seq::from_vec(addrs))
     }
 
@@ -120,14 +130,6 @@ impl Ranges {
     }
 }
 
-fn drop_owner(held: &mut Vec<Held>, owner: u32)
-    ensures held { held.new.items ≡ filter (λ r. not (r.owner == owner)) held.old.items }
-    ensures len { vec_len held.new ≤ vec_len held.old }
-    ensures capacity { vec_capacity held.new ≡ vec_capacity held.old }
-{
-    held.retain(|r| r.owner != owner);
-}
-
 /// Where the range goes by its start.
 fn place_of(held: &[Held], range: &Held) -> usize
     ensures within { result ≤ length held.now }
@@ -141,37 +143,13 @@ fn place_of(held: &[Held], range: &Held) -> usize
     held.len()
 }
 
-fn hold(held: &mut Vec<Held>, range: Held)
-    requires { vec_len held.old < vec_capacity held.old }
-    ensures held { held.new.items ≡ held_with range held.old.items }
-    ensures len { vec_len held.new ≡ vec_len held.old + 1 }
-    ensures capacity { vec_capacity held.new ≡ vec_capacity held.old }
+/// Holds one more range, in its place by start.
+fn hold(held: &mut Vec<Held>, range: Held) -> Result<(), Memory>
+    ensures { OnOk result (held.new.items ≡ held_with range held.old.items) }
 {
     let place = place_of(held, &range);
-    match held.insert(place, range) {
-        Ok(()) => {}
-        Err(_) => unreachable!(),
-    }
-}
-
-fn hold_all(held: &mut Vec<Held>, items: &[Item], addrs: &[u32])
-    requires length { length addrs.now ≡ length items.now }
-    requires room { vec_len held.old + length items.now ≤ vec_capacity held.old }
-    ensures held { held.new.items ≡ all_held items.now addrs.now held.old.items }
-    ensures len { vec_len held.new ≡ vec_len held.old + length items.now }
-    ensures capacity { vec_capacity held.new ≡ vec_capacity held.old }
-{
-    for i in 0..items.len() {
-        let item = items[i];
-        hold(
-            held,
-            Held {
-                owner: item.owner,
-                start: addrs[i],
-                len: item.memsz,
-            },
-        );
-    }
+    held.insert(place, range)?;
+    Ok(())
 }
 
 /// The items' addresses, where `taken` is held, and each item's range from then on.
@@ -182,7 +160,7 @@ fn addresses(
     items: &[Item],
 ) -> Result<Vec<u32>, PlaceErr>
     requires few { length items.now < 2 ^ 32 }
-    requires sizes { All (λ item. 0 < item.memsz) items.now }
+    requires rising { AreRising taken.old.items }
     ensures placed { IfOk result (λ addrs. Placed low high taken.old.items items.now addrs.items) }
     ensures inside { IfOk result (λ addrs. AllZip (LiesWithin low high) items.now addrs.items) }
     ensures count { IfOk result (λ addrs. length addrs.items ≡ length items.now) }
@@ -194,11 +172,12 @@ fn addresses(
             None => return Err(PlaceErr::NoRoom(i as u32)),
             Some(at) => {
                 addrs.push(at)?;
-                taken.push(Held {
+                let range = Held {
                     owner: item.owner,
                     start: at,
                     len: item.memsz,
-                })?;
+                };
+                hold(taken, range)?;
             }
         }
     }

@@ -1,3 +1,4 @@
+pub mod Begins
 pub mod FirstLive
 mod LivePlaces
 pub mod StartRefusals

@@ -23,6 +23,10 @@ export_entry numbered = if is_exported numbered.1 then option_map (λ name. (nam
 abbrev pub export_entries : List Symbol → List (List ℕ × ℕ)
 export_entries symbols = filter_map export_entry (enumerate_from 0 symbols)
 
+-- the first number of each name
+abbrev pub export_map : List (List ℕ × ℕ) → ExportMap
+export_map entries = from_entries entries
+
 -- the first symbol of each exported name
 abbrev pub exports_of : List Symbol → ExportMap
-exports_of symbols = from_entries (export_entries symbols)
+exports_of symbols = export_map (export_entries symbols)

@@ -1,18 +1,17 @@
 //! The exported names of one object.
 
-ghost use Rattle.std.specs.Prelude.{◌≡◌, ◌++◌, ◌≤◌, ◌^◌, length, option_to_list, IfOk, OnOk};
-ghost use Rattle.std.specs.Ordering.{nat_cmp, eq_by_cmp};
-ghost use Rattle.std.specs.Cmp.Lexicographic.{slice_cmp};
+ghost use Rattle.std.specs.Prelude.{◌≡◌, ◌++◌, ◌∷◌, [], ◌≤◌, ◌^◌, length, option_to_list, IfOk, OnOk};
 ghost use Rattle.std.specs.Str.{bytes_eq};
-ghost use Rattle.std.specs.FinMap.{find, get};
+ghost use Rattle.std.specs.FinMap.{get};
 ghost use Rattle.symbol_scope.specs.Exported.{is_exported};
-ghost use Rattle.symbol_scope.specs.Exports.{export_entry, export_entries, exports_of};
+ghost use Rattle.symbol_scope.specs.Exports.{export_entry, export_map, exports_of};
 
 use elf_model::constants::{
     STB_GLOBAL, STB_WEAK, STT_FILE, STT_SECTION, STV_DEFAULT, STV_PROTECTED,
 };
 use elf_model::{Place, Symbol};
 use fd_base::{Memory, Name};
+use indexmap::IndexMap;
 use std::alloc::Global;
 use std::marker::Model;
 
@@ -29,29 +28,29 @@ pub fn is_exported(symbol: &Symbol) -> bool
 }
 
 /// Whether two names are one.
-#[tactic(auto, using(crate::proofs::Finding::tied_names))]
 pub(crate) fn is_same(a: &Name, b: &Name) -> bool
-    ensures bytes { result ≡ bytes_eq a.now b.now }
-    ensures tied { result ≡ eq_by_cmp (slice_cmp nat_cmp) a.now b.now }
+    ensures { result ≡ bytes_eq a.now b.now }
 {
     a.as_slice() == b.as_slice()
 }
 
+/// Names with numbers.
+type Index = IndexMap<Name, u32>;
+
 /// The exported names of an object, each with the number of its first definition.
 #[derive(Drop)]
 pub struct Exports {
-    entries: Vec<(Name, u32)>,
+    index: Index,
 }
 
 impl Model for Exports {
-    ghost use Rattle.std.specs.FinMap.{from_entries};
-    ghost use Rattle.symbol_scope.specs.Exports.{ExportMap, export_map_code};
+    ghost use Rattle.symbol_scope.specs.Exports.{ExportMap, export_map_code, export_map};
 
     ghost Value = { ExportMap };
 
     ghost coded = { export_map_code };
 
-    ghost view = { λ e. from_entries e.entries.items };
+    ghost view = { λ e. export_map e.index.entries };
 }
 
 impl Exports {
@@ -60,49 +59,49 @@ impl Exports {
         requires { length symbols.now ≤ 2 ^ 32 }
         ensures { IfOk result (λ e. e ≡ exports_of symbols.now) }
     {
-        let entries = export_entries(alloc, symbols)?;
-        Ok(Exports { entries })
+        let index = indexed(alloc, symbols)?;
+        Ok(Exports { index })
     }
 
     /// The number of the first exported definition of a name.
     pub fn get(&self, name: &Name) -> Option<u32>
         ensures { result ≡ get self.now name.now }
     {
-        lookup(&self.entries, name)
+        self.index.get(name).copied()
     }
 }
 
-fn add_entry(entries: &mut Vec<(Name, u32)>, number: u32, symbol: &Symbol) -> Result<(), Memory>
-    ensures { OnOk result (entries.new.items ≡ entries.old.items ++ option_to_list (export_entry (number, symbol.now))) }
+/// Enters a name. One that is there keeps its number.
+fn enter(alloc: Global, index: &mut Index, name: &Name, number: u32) -> Result<(), Memory>
+    ensures { OnOk result (export_map index.new.entries ≡ export_map (index.old.entries ++ (name.now, number) ∷ [])) }
+{
+    if index.contains_key(name) {
+        return Ok(());
+    }
+    let name = name.copy(alloc)?;
+    index.insert(name, number)?;
+    Ok(())
+}
+
+fn add_entry(alloc: Global, index: &mut Index, number: u32, symbol: &Symbol) -> Result<(), Memory>
+    ensures { OnOk result (export_map index.new.entries ≡ export_map (index.old.entries ++ option_to_list (export_entry (number, symbol.now)))) }
 {
     if !is_exported(symbol) {
         return Ok(());
     }
-    if let Some(name) = &symbol.name {
-        let name = name.copy(*entries.allocator())?;
-        entries.push((name, number))?;
+    match &symbol.name {
+        Some(name) => enter(alloc, index, name, number),
+        None => Ok(()),
     }
-    Ok(())
 }
 
-fn export_entries(alloc: Global, symbols: &[Symbol]) -> Result<Vec<(Name, u32)>, Memory>
+fn indexed(alloc: Global, symbols: &[Symbol]) -> Result<Index, Memory>
     requires { length symbols.now ≤ 2 ^ 32 }
-    ensures { IfOk result (λ v. v.items ≡ export_entries symbols.now) }
+    ensures { IfOk result (λ index. export_map index.entries ≡ exports_of symbols.now) }
 {
-    let mut entries = Vec::new(alloc);
+    let mut index = IndexMap::new(alloc);
     for (i, symbol) in symbols.iter().enumerate() {
-        add_entry(&mut entries, i as u32, symbol)?;
+        add_entry(alloc, &mut index, i as u32, symbol)?;
     }
-    Ok(entries)
-}
-
-fn lookup(entries: &[(Name, u32)], name: &Name) -> Option<u32>
-    ensures { result ≡ find (slice_cmp nat_cmp) name.now entries.now }
-{
-    for entry in entries {
-        if is_same(name, &entry.0) {
-            return Some(entry.1);
-        }
-    }
-    None
+    Ok(index)
 }

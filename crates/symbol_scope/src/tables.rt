@@ -115,6 +115,13 @@ impl Tables {
         found_in(&self.slots, scope.as_slice(), name)
     }
 
+    /// The number of the first exported definition of a name in a module. Takes no memory.
+    pub fn export_in(&self, number: u32, name: &Name) -> Option<u32>
+        ensures { result ≡ export_in self.now.slots name.now number }
+    {
+        export_in(&self.slots, name, number)
+    }
+
     /// The root and the modules that are needed from it on, breadth first over the needed names in table
     /// order, each module once. A needed name that is no module's name counts for nothing.
     pub fn closure(&self, alloc: Global, root: u32) -> Result<Numbers, Memory>

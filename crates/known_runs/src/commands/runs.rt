@@ -262,66 +262,78 @@ fn runs_that_do_not_start(rt: HostRuntime) -> Result<(), Fail> {
     Ok(())
 }
 
-#[test]
-fn runs_that_are_cut_off(rt: HostRuntime) -> Result<(), Fail> {
-    let alloc = rt.alloc();
-    is_refused(&rt, alloc, Files::Programs, b"run", 2, b"fdpic: words\n")?;
-    is_refused(
-        &rt,
-        alloc,
-        Files::Programs,
-        b"run eager.job 8",
-        2,
-        b"fdpic: words\n",
-    )?;
-    let case = Case {
+/// Runs whose words are refused, whose store or sink fails, or whose line of the status is lost.
+const CUT_OFF: [Case; 9] = [
+    Case {
+        words: b"run",
+        status: 2,
+        err: b"fdpic: words\n",
+        ..CALLING
+    },
+    Case {
+        words: b"run eager.job 8",
+        status: 2,
+        err: b"fdpic: words\n",
+        ..CALLING
+    },
+    Case {
         words: b"run eager.job",
         store_fails_at: 1,
         status: 3,
         err: b"fdpic: store fault\n",
         ..CALLING
-    };
-    check(&rt, alloc, &case)?;
-    let case = Case {
+    },
+    Case {
         words: b"run eager.job",
         store_fails_at: 3,
         status: 3,
         err: b"fdpic: store fault\n",
         ..CALLING
-    };
-    check(&rt, alloc, &case)?;
-    let case = Case {
+    },
+    Case {
         words: b"run lazy.job",
         store_fails_at: 2,
         status: 5,
         err: b"fdpic: load NotBuilt prog\n",
         ..CALLING
-    };
-    check(&rt, alloc, &case)?;
-    let case = Case {
+    },
+    Case {
         words: b"run eager.job",
         out_fails_at: 1,
         status: 4,
         err: b"fdpic: sink fault\n",
         ..CALLING
-    };
-    check(&rt, alloc, &case)?;
-    let case = Case {
+    },
+    Case {
+        words: b"run eager.job",
+        out_fails_at: 2,
+        status: 4,
+        out: b"load 0 prog\n",
+        err: b"fdpic: sink fault\n",
+        ..CALLING
+    },
+    Case {
         words: b"run eager.job",
         out_fails_at: 4,
         status: 4,
         out: b"load 0 prog\nload 1 foo.so\nenter 1 0 0 0\n",
         err: b"fdpic: sink fault\n",
         ..CALLING
-    };
-    check(&rt, alloc, &case)?;
-    let case = Case {
+    },
+    Case {
         words: b"run weak.job",
         err_fails_at: 1,
         status: 6,
         out: b"load 0 weak\nenter 1 0 0 0\nstop 5 0 fault 0x00000000\n",
         ..CALLING
-    };
-    check(&rt, alloc, &case)?;
+    },
+];
+
+#[test]
+fn runs_that_are_cut_off(rt: HostRuntime) -> Result<(), Fail> {
+    let alloc = rt.alloc();
+    for case in &CUT_OFF {
+        check(&rt, alloc, case)?;
+    }
     Ok(())
 }

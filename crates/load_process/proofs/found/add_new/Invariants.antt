@@ -5,4 +5,4 @@ use Rattle.load_process.proofs.found.add_new.Given as goal
 
 -- the names so far are there
 abbrev pub invariant-loop-name : goal.invariant-loop-name
-invariant-loop-name l = l.names.items ≡ with_new bytes_eq l.fn.names.items (take l.name-index l.more)
+invariant-loop-name l = l.names.keys ≡ with_new bytes_eq l.fn.names.keys (take l.name-index l.more)

@@ -8,7 +8,7 @@ use Rattle.load_process.proofs.walking.walked.Given as goal
 -- the first names were looked at
 abbrev pub invariant-loop-steps : goal.invariant-loop-steps
 invariant-loop-steps g l = record {
-  numbered : IsNumbered l.process (g.S.Store.files l.fn.store) l.root l.steps.next l.steps.joining l.steps.names.items l.steps.members;
+  numbered : IsNumbered l.process (g.S.Store.files l.fn.store) l.root l.steps.next l.steps.joining l.steps.names.keys l.steps.members;
   sound : All (λ (j : Joining). IsTaken j.object) l.steps.joining;
   files : g.S.Store.files l.store ≡ g.S.Store.files l.fn.store;
   count : g.S.Store.faults l.fn.store ≤ g.S.Store.faults l.store;

@@ -5,6 +5,7 @@ use Rattle.std.proofs.lemmas.List.Elements.{All-replicate, All-set}
 use Rattle.load_model.specs.declared.plan.MemPlan.{MemPlan}
 use Rattle.run_model.specs.declared.thread.Thread.{Thread}
 use Rattle.run_turn.specs.parts.CallsInProgress.{AreInProgress}
+use Rattle.proc_run.proofs.Begins.{begins}
 use Rattle.proc_run.proofs.SettledTurns.{placed_now}
 use Rattle.proc_run.proofs.process.begin.Goals as goal
 
@@ -26,3 +27,9 @@ returns-clause-running c =
       calls = subst (λ (places : List (Option Thread)). All AreInProgress places) (sym c.in_ok-threads.ensures)
           (All-set AreInProgress (replicate n None) 0 first c.first_thread-thread.ensures.calls (All-replicate AreInProgress n None tt));
     }
+
+pub returns-clause-begins : goal.returns-clause-begins
+returns-clause-begins c =
+    let l = c.args.loader.loaded in
+    let first = c.first_thread-thread.ensures.thread l (sym c.process.ensures) (sym c.maps.ensures) (ap (λ (p : MemPlan). p.memory) c.requires.plan) in
+    begins l c.args.entry c.args.job.now.steps c.args.job.now.plan _ _ _ _ c.requires.plan c.process-2.ensures first c.in_ok-threads.ensures c.in_ok-pending.ensures

@@ -1,35 +1,24 @@
-use Rattle.std.proofs.Common.{◌≡◌, ◌≢◌, ℕ, ◌-◌, ◌<◌, None, ap, sym, ◌∙◌, subst, length, vec_len, vec_capacity}
-use Rattle.std.specs.FinMap.{get, insert}
-use Rattle.func_desc.specs.Functions.{AddrMap}
-use Rattle.func_desc.specs.Pool.{Pool, slot_addr, free_slots}
-use Rattle.func_desc.specs.parts.Inside.{addrs_of}
-use Rattle.func_desc.proofs.Slotting.{kept-push, addrs_of-push}
-use Rattle.func_desc.proofs.Freeing.{free_slots_lem}
+use Rattle.std.proofs.Common.{◌≡◌, ◌-◌, ◌<◌, None, ap, sym, ◌∙◌, subst, length, arith}
+use Rattle.std.specs.FinMap.{get, find}
+use Rattle.func_desc.specs.Functions.{func_cmp}
+use Rattle.func_desc.specs.Pool.{IsSlot, free_slots}
+use Rattle.func_desc.proofs.Entered.{entered_get}
+use Rattle.func_desc.proofs.Kept.{kept_free, kept_adopted}
 use Rattle.func_desc.proofs.pool.DescPool.adopt.Goals as goal
 
 pub invariant_of-self : goal.invariant_of-self
 invariant_of-self c =
-    let none : get (addrs_of c.self.inside.base c.self.inside.slots.items c.self.inside.adopted.items) c.args.f.now ≡ None =
-    ap (λ p. get p.addrs c.args.f.now) c.self.view_is ∙ c.requires.fresh in
-    let elsewhere : (i : ℕ) → i < length c.self.inside.slots.items → c.args.addr ≢ slot_addr c.self.inside.base i =
-    λ i lt e. c.requires.no_slot (i, subst (λ n. i < n) (ap (λ p. p.slots) c.self.view_is) lt, e ∙ ap (λ p. slot_addr p.base i) c.self.view_is) in
-    rw c.enter.ensures.items
-    (kept-push c.self.inside.base c.self.inside.slots.items c.self.inside.adopted.items c.args.f.now c.args.addr none
-    (λ g e. c.requires.unused g (sym (ap (λ p. get p.addrs g) c.self.view_is) ∙ e)) elsewhere c.self.invariant)
-
-pub returns-clause-adopted : goal.returns-clause-adopted
-returns-clause-adopted c =
-    let base = c.self.inside.base in
-    let slots = c.self.inside.slots.items in
-    let adopted = c.self.inside.adopted.items in
-    let room = vec_capacity c.enter.new.entries - vec_len c.enter.new.entries in
-    let made : AddrMap → Pool = λ m. record { base = base; slots = length slots; addrs = m; room = room } in
-    let none : get (addrs_of base slots adopted) c.args.f.now ≡ None = ap (λ p. get p.addrs c.args.f.now) c.self.view_is ∙ c.requires.fresh in
-    let with : Pool → Pool = λ p. record { base = p.base; slots = p.slots; addrs = insert p.addrs c.args.f.now c.args.addr; room = room } in
-    ap (λ es. made (addrs_of base slots es)) c.enter.ensures.items ∙ ap made (addrs_of-push base slots adopted c.args.f.now c.args.addr none)
-    ∙ ap with c.self.view_is
+    let s = c.self.inside in
+    let none : find func_cmp c.args.f.now s.entries.entries ≡ None = sym (entered_get s.entries.entries c.args.f.now) ∙ ap (λ p. get p.addrs c.args.f.now) c.self.view_is ∙ c.requires.fresh in
+    let more : length s.slots.free < s.entries.spare = omega (arith, c.requires.room, ap (λ p. p.room) c.self.view_is) in
+    rw c.enter.ensures
+    (kept_adopted s.slots.base (length s.slots.marks) s.entries.entries s.slots.free s.entries.spare c.self.invariant c.args.f.now c.args.addr (s.entries.spare - length s.slots.free) none
+    (λ g e. c.requires.unused g (sym (ap (λ p. get p.addrs g) c.self.view_is) ∙ e)) (λ slot. c.requires.no_slot (subst (λ p. IsSlot p c.args.addr) c.self.view_is slot)) more)
 
 pub returns-clause-free : goal.returns-clause-free
 returns-clause-free c =
-    free_slots_lem c.self.inside.base c.self.inside.slots.items c.enter.new.entries.items (invariant_of-self c)
-    ∙ sym (free_slots_lem c.self.inside.base c.self.inside.slots.items c.self.inside.adopted.items c.self.invariant) ∙ ap free_slots c.self.view_is
+    let s = c.self.inside in
+    let room = s.entries.spare - length s.slots.free in
+    let free : s.slots.free ≡ free_slots c.args.self.now = kept_free s.slots.base (length s.slots.marks) s.entries.entries s.slots.free s.entries.spare c.self.invariant room ∙ ap free_slots c.self.view_is in
+    let room' = c.enter.new.self.spare - length s.slots.free in
+    sym (kept_free s.slots.base (length s.slots.marks) c.enter.new.self.entries s.slots.free c.enter.new.self.spare (invariant_of-self c) room') ∙ free

@@ -1,8 +1,11 @@
-use Rattle.std.proofs.Common.{ap, sym, ◌∙◌, length}
-use Rattle.func_desc.proofs.Freeing.{free_slots_lem, length-free_from}
+use Rattle.std.proofs.Common.{◌≡◌, ◌-◌, ap, ◌∙◌, length}
+use Rattle.func_desc.specs.Pool.{free_slots}
+use Rattle.func_desc.proofs.Kept.{kept_free}
 use Rattle.func_desc.proofs.pool.DescPool.free.Goals as goal
 
 pub returns : goal.returns
 returns c =
-    rw (← c.self.view_is)
-    ((rw c.deref.ensures.value at c.count_empty.ensures) ∙ length-free_from c.self.inside.base c.self.inside.slots.items ∙ ap length (sym (free_slots_lem _ _ _ c.self.invariant)))
+    let s = c.self.inside in
+    let room = s.entries.spare - length s.slots.free in
+    let free : s.slots.free ≡ free_slots c.args.self.now = kept_free s.slots.base (length s.slots.marks) s.entries.entries s.slots.free s.entries.spare c.self.invariant room ∙ ap free_slots c.self.view_is in
+    c.count.ensures ∙ ap length free

@@ -1,9 +1,12 @@
-use Rattle.std.proofs.Common.{◌+◌, ◌≤◌, length, ap, arith}
-use Rattle.guest_mem.specs.Memory.{GuestMemory}
-use Rattle.guest_mem.proofs.Inside.{asked_inside}
+use Rattle.std.proofs.Common.{◌≡◌, true}
+use Rattle.guest_mem.specs.parts.Tags.{is_enough}
+use Rattle.guest_mem.proofs.Tagged.{known_read, known_inside}
 use Rattle.guest_mem.proofs.guest.Guest.check.Goals as goal
 
-pub returns-in-None-clause-inside : goal.returns-in-None-clause-inside
-returns-in-None-clause-inside c =
-    let within : c.args.addr + c.args.count ≤ length c.deref.result.now = asked_inside c.args.asked c.deref.result.now c.args.addr c.args.count (cc) c.requires.some in
-    omega (arith, ap length c.deref.ensures.value, ap (λ (m : GuestMemory). length m.bytes) c.self.view_is)
+pub returns-then-is_enough-clause-refusal : goal.returns-then-is_enough-clause-refusal
+returns-then-is_enough-clause-refusal c = known_read c.known.result c.args.asked c.args.width c.args.count c.args.self.now c.args.addr (cc) c.known.ensures
+
+pub returns-then-is_enough-clause-inside : goal.returns-then-is_enough-clause-inside
+returns-then-is_enough-clause-inside c =
+    let enough : is_enough c.known.result c.args.asked ≡ true = cc in
+    known_inside c.known.result c.args.asked c.args.width c.args.count c.args.self.now c.args.addr c.whole.ensures.whole c.requires.some enough c.known.ensures

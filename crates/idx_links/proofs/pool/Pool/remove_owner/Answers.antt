@@ -26,3 +26,6 @@ returns-clause-count g c = (HasLeft-all c.args.owner c.args.self.now c.loop-id.s
 
 pub returns-clause-removed : goal.returns-clause-removed
 returns-clause-removed g c = (HasLeft-all c.args.owner c.args.self.now c.loop-id.self c.loop-id.count c.loop-id.invariant c.first_of.ensures.tied (sym c.first_of.ensures.first ∙ c.in_default.is)).1
+
+pub returns-clause-total : goal.returns-clause-total
+returns-clause-total g c = c.loop-id.invariant.total
