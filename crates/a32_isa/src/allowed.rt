@@ -9,18 +9,21 @@ use crate::instr::{Arg, HalfOff, MemOff, Op};
 /// The program counter.
 const PC: u8 = 15;
 
+#[inline]
 pub fn is_comparison(op: u8) -> bool
     ensures { result ≡ is_comparison op }
 {
     8 <= op && op <= 11
 }
 
+#[inline]
 pub fn is_move(op: u8) -> bool
     ensures { result ≡ is_move op }
 {
     op == 13 || op == 15
 }
 
+#[inline]
 pub fn is_listed(list: u16, register: u8) -> bool
     requires { register < 16 }
     ensures { result ≡ is_listed list register }
@@ -28,12 +31,14 @@ pub fn is_listed(list: u16, register: u8) -> bool
     (list >> register) % 2 == 1
 }
 
+#[inline]
 fn is_data_allowed(op: u8, s: bool, n: u8, d: u8) -> bool
     ensures { result ≡ is_data_allowed op s n d }
 {
     (!is_comparison(op) || (s && d == 0)) && (!is_move(op) || n == 0) && !(s && d == PC)
 }
 
+#[inline]
 fn is_arg_allowed(n: u8, d: u8, arg: &Arg) -> bool
     ensures { result ≡ is_arg_allowed n d arg.now }
 {
@@ -43,6 +48,7 @@ fn is_arg_allowed(n: u8, d: u8, arg: &Arg) -> bool
     }
 }
 
+#[inline]
 fn is_mem_off_allowed(off: &MemOff) -> bool
     ensures { result ≡ is_mem_off_allowed off.now }
 {
@@ -52,6 +58,7 @@ fn is_mem_off_allowed(off: &MemOff) -> bool
     }
 }
 
+#[inline]
 fn is_half_off_allowed(off: &HalfOff) -> bool
     ensures { result ≡ is_half_off_allowed off.now }
 {
@@ -61,12 +68,14 @@ fn is_half_off_allowed(off: &HalfOff) -> bool
     }
 }
 
+#[inline]
 fn is_base_allowed(p: bool, w: bool, n: u8, d: u8) -> bool
     ensures { result ≡ is_base_allowed p w n d }
 {
     (p || !w) && ((p && !w) || (n != PC && n != d))
 }
 
+#[inline]
 fn is_multi_allowed(load: bool, w: bool, n: u8, list: u16) -> bool
     ensures { result ≡ is_multi_allowed load w n list }
 {
@@ -74,6 +83,7 @@ fn is_multi_allowed(load: bool, w: bool, n: u8, list: u16) -> bool
 }
 
 /// A row has these fields.
+#[inline]
 pub fn is_allowed(op: &Op) -> bool
     ensures { result ≡ is_allowed op.now }
 {

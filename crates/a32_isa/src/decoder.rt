@@ -3,12 +3,13 @@
 ghost use Rattle.std.specs.Prelude.{◌≡◌, ◌↔◌, Option, Some, IsNone, IfSome};
 ghost use Rattle.a32_isa.specs.declared.instr.Instr.{Instr};
 ghost use Rattle.a32_isa.specs.Table.{IsInstruction};
-ghost use Rattle.a32_isa.specs.Decoding.{decode_of, candidate_of, data_of, mem_of, half_of, multi_of, multiply_of, half_with_kind, half_class_of, misc_of, register_class_of, wide_immediate, wide_of, immediate_class_of};
+ghost use Rattle.a32_isa.specs.Decoding.{decode_of, candidate_of, with_condition, data_of, mem_of, half_of, multi_of, multiply_of, half_with_kind, half_class_of, misc_of, register_class_of, wide_immediate, wide_of, immediate_class_of};
 
 use crate::allowed::is_allowed;
 use crate::bits::{field, flag, small_field};
 use crate::instr::{Arg, HalfOff, Instr, MemOff, Op};
 
+#[inline]
 fn data_of(word: u32, arg: Arg) -> Op
     ensures { result ≡ data_of word arg }
 {
@@ -21,6 +22,7 @@ fn data_of(word: u32, arg: Arg) -> Op
     }
 }
 
+#[inline]
 fn mem_of(word: u32, off: MemOff) -> Op
     ensures { result ≡ mem_of word off }
 {
@@ -36,6 +38,7 @@ fn mem_of(word: u32, off: MemOff) -> Op
     }
 }
 
+#[inline]
 fn half_of(word: u32, kind: u8, off: HalfOff) -> Op
     ensures { result ≡ half_of word kind off }
 {
@@ -50,6 +53,7 @@ fn half_of(word: u32, kind: u8, off: HalfOff) -> Op
     }
 }
 
+#[inline]
 fn multi_of(word: u32) -> Op
     ensures { result ≡ multi_of word }
 {
@@ -63,10 +67,23 @@ fn multi_of(word: u32) -> Op
     }
 }
 
+/// An operation under a condition, if its row takes its fields.
+#[inline]
+fn taken(cond: u8, op: Op) -> Option<Instr>
+    ensures { result ≡ with_condition cond (Some op) }
+{
+    if is_allowed(&op) {
+        Some(Instr { cond, op })
+    } else {
+        None
+    }
+}
+
 /// Bits 7 to 4 are 1001.
+#[inline]
 #[tactic(auto, unfolding(crate::specs::Decoding::multiply_of))]
-fn multiply_of(word: u32) -> Option<Op>
-    ensures { result ≡ multiply_of word }
+fn multiply_of(cond: u8, word: u32) -> Option<Instr>
+    ensures { result ≡ with_condition cond (multiply_of word) }
 {
     let s = flag(word, 20);
     let d = small_field(word, 16, 4);
@@ -75,96 +92,107 @@ fn multiply_of(word: u32) -> Option<Op>
     let m = small_field(word, 0, 4);
     let kind = small_field(word, 21, 2);
     match (field(word, 23, 2), kind) {
-        (1, _) => Some(Op::Long {
-            kind,
-            s,
-            hi: d,
-            lo: n,
-            s2,
-            m,
-        }),
-        (0, 0) if n == 0 => Some(Op::Mul { s, d, s2, m }),
-        (0, 1) => Some(Op::Mla { s, d, n, s2, m }),
+        (1, _) => taken(
+            cond,
+            Op::Long {
+                kind,
+                s,
+                hi: d,
+                lo: n,
+                s2,
+                m,
+            },
+        ),
+        (0, 0) if n == 0 => taken(cond, Op::Mul { s, d, s2, m }),
+        (0, 1) => taken(cond, Op::Mla { s, d, n, s2, m }),
         _ => None,
     }
 }
 
+#[inline]
 #[tactic(auto, unfolding(crate::specs::Decoding::half_with_kind))]
-fn half_with_kind(word: u32, kind: u8) -> Option<Op>
-    ensures { result ≡ half_with_kind word kind }
+fn half_with_kind(cond: u8, word: u32, kind: u8) -> Option<Instr>
+    ensures { result ≡ with_condition cond (half_with_kind word kind) }
 {
     let high = small_field(word, 8, 4);
     let low = small_field(word, 0, 4);
     if flag(word, 22) {
-        Some(half_of(word, kind, HalfOff::Imm(16 * high + low)))
+        taken(cond, half_of(word, kind, HalfOff::Imm(16 * high + low)))
     } else if high == 0 {
-        Some(half_of(word, kind, HalfOff::Reg(low)))
+        taken(cond, half_of(word, kind, HalfOff::Reg(low)))
     } else {
         None
     }
 }
 
 /// Bits 7 and 4 are set, and bit 6 or 5 is.
+#[inline]
 #[tactic(auto, unfolding(crate::specs::Decoding::half_class_of))]
-fn half_class_of(word: u32) -> Option<Op>
-    ensures { result ≡ half_class_of word }
+fn half_class_of(cond: u8, word: u32) -> Option<Instr>
+    ensures { result ≡ with_condition cond (half_class_of word) }
 {
     match (flag(word, 20), small_field(word, 5, 2)) {
-        (true, kind) => half_with_kind(word, kind),
-        (false, 1) => half_with_kind(word, 0),
+        (true, kind) => half_with_kind(cond, word, kind),
+        (false, 1) => half_with_kind(cond, word, 0),
         (false, _) => None,
     }
 }
 
 /// The miscellaneous instructions, in the place of comparisons that set no flags.
+#[inline]
 #[tactic(auto, unfolding(crate::specs::Decoding::misc_of))]
-fn misc_of(word: u32) -> Option<Op>
-    ensures { result ≡ misc_of word }
+fn misc_of(cond: u8, word: u32) -> Option<Instr>
+    ensures { result ≡ with_condition cond (misc_of word) }
 {
     let m = small_field(word, 0, 4);
     match (flag(word, 20), field(word, 21, 4)) {
         (false, 11)
             if field(word, 16, 4) == 15 && field(word, 8, 4) == 15 && field(word, 5, 2) == 0 => {
-            Some(Op::Clz {
-                d: small_field(word, 12, 4),
-                m,
-            })
+            taken(
+                cond,
+                Op::Clz {
+                    d: small_field(word, 12, 4),
+                    m,
+                },
+            )
         }
         (false, 9) if field(word, 8, 12) == 0xfff => match field(word, 5, 2) {
-            0 => Some(Op::Bx { m }),
-            1 => Some(Op::Blx { m }),
+            0 => taken(cond, Op::Bx { m }),
+            1 => taken(cond, Op::Blx { m }),
             _ => None,
         },
         _ => None,
     }
 }
 
+#[inline]
 #[tactic(auto, unfolding(crate::specs::Decoding::register_class_of))]
-fn register_class_of(word: u32) -> Option<Op>
-    ensures { result ≡ register_class_of word }
+fn register_class_of(cond: u8, word: u32) -> Option<Instr>
+    ensures { result ≡ with_condition cond (register_class_of word) }
 {
     let kind = small_field(word, 5, 2);
     let m = small_field(word, 0, 4);
     if !flag(word, 4) {
         let imm = small_field(word, 7, 5);
-        return Some(data_of(word, Arg::ByImm { imm, kind, m }));
+        return taken(cond, data_of(word, Arg::ByImm { imm, kind, m }));
     }
     if flag(word, 7) {
         return if kind == 0 {
-            multiply_of(word)
+            multiply_of(cond, word)
         } else {
-            half_class_of(word)
+            half_class_of(cond, word)
         };
     }
     let s2 = small_field(word, 8, 4);
     let op = data_of(word, Arg::ByReg { s2, kind, m });
     if is_allowed(&op) {
-        Some(op)
+        Some(Instr { cond, op })
     } else {
-        misc_of(word)
+        misc_of(cond, word)
     }
 }
 
+#[inline]
 fn wide_immediate(word: u32) -> u16
     ensures { result ≡ wide_immediate word }
 {
@@ -172,60 +200,70 @@ fn wide_immediate(word: u32) -> u16
 }
 
 /// What stands in the place of comparisons with an immediate that set no flags.
+#[inline]
 #[tactic(auto, unfolding(crate::specs::Decoding::wide_of))]
-fn wide_of(word: u32) -> Option<Op>
-    ensures { result ≡ wide_of word }
+fn wide_of(cond: u8, word: u32) -> Option<Instr>
+    ensures { result ≡ with_condition cond (wide_of word) }
 {
     let d = small_field(word, 12, 4);
     let imm16 = wide_immediate(word);
     match (flag(word, 20), field(word, 21, 4)) {
-        (false, 8) => Some(Op::Movw { d, imm16 }),
-        (false, 10) => Some(Op::Movt { d, imm16 }),
-        (false, 9) if field(word, 0, 20) == 0xf000 => Some(Op::Nop),
+        (false, 8) => taken(cond, Op::Movw { d, imm16 }),
+        (false, 10) => taken(cond, Op::Movt { d, imm16 }),
+        (false, 9) if field(word, 0, 20) == 0xf000 => taken(cond, Op::Nop),
         _ => None,
     }
 }
 
-fn immediate_class_of(word: u32) -> Option<Op>
-    ensures { result ≡ immediate_class_of word }
+#[inline]
+fn immediate_class_of(cond: u8, word: u32) -> Option<Instr>
+    ensures { result ≡ with_condition cond (immediate_class_of word) }
 {
     let rot = small_field(word, 8, 4);
     let imm = small_field(word, 0, 8);
     let op = data_of(word, Arg::Imm { rot, imm });
     if is_allowed(&op) {
-        Some(op)
+        Some(Instr { cond, op })
     } else {
-        wide_of(word)
+        wide_of(cond, word)
     }
 }
 
-/// The operation whose fields a word has, before it is asked whether a row takes them.
+/// The instruction whose fields a word has below its condition: each class chooses the row, which asks once.
+#[inline]
 #[tactic(auto, unfolding(crate::specs::Decoding::candidate_of))]
-fn candidate_of(word: u32) -> Option<Op>
-    ensures { result ≡ candidate_of word }
+fn candidate_of(cond: u8, word: u32) -> Option<Instr>
+    ensures { result ≡ with_condition cond (candidate_of word) }
 {
     match field(word, 25, 3) {
-        0 => register_class_of(word),
-        1 => immediate_class_of(word),
-        2 => Some(mem_of(word, MemOff::Imm(field(word, 0, 12) as u16))),
+        0 => register_class_of(cond, word),
+        1 => immediate_class_of(cond, word),
+        2 => taken(cond, mem_of(word, MemOff::Imm(field(word, 0, 12) as u16))),
         3 if !flag(word, 4) => {
             let imm = small_field(word, 7, 5);
             let kind = small_field(word, 5, 2);
             let m = small_field(word, 0, 4);
-            Some(mem_of(word, MemOff::Reg { imm, kind, m }))
+            taken(cond, mem_of(word, MemOff::Reg { imm, kind, m }))
         }
-        4 if !flag(word, 22) => Some(multi_of(word)),
-        5 => Some(Op::Branch {
-            link: flag(word, 24),
-            imm24: field(word, 0, 24),
-        }),
-        7 if flag(word, 24) => Some(Op::Svc {
-            imm24: field(word, 0, 24),
-        }),
+        4 if !flag(word, 22) => taken(cond, multi_of(word)),
+        5 => taken(
+            cond,
+            Op::Branch {
+                link: flag(word, 24),
+                imm24: field(word, 0, 24),
+            },
+        ),
+        7 if flag(word, 24) => taken(
+            cond,
+            Op::Svc {
+                imm24: field(word, 0, 24),
+            },
+        ),
         _ => None,
     }
 }
 
+#[inline]
 #[tactic(auto, unfolding(crate::specs::Decoding::decode_of))]
 fn decoded(word: u32) -> Option<Instr>
     ensures { result ≡ decode_of word }
@@ -234,12 +272,7 @@ fn decoded(word: u32) -> Option<Instr>
     if cond == 15 {
         return None;
     }
-    let op = candidate_of(word)?;
-    if is_allowed(&op) {
-        Some(Instr { cond, op })
-    } else {
-        None
-    }
+    candidate_of(cond, word)
 }
 
 /// The instruction whose word this is. None exactly where no row of the instruction table has the word.

@@ -5,18 +5,16 @@ ghost use Rattle.guest_mem.specs.Memory.{GuestMemory};
 ghost use Rattle.a32_machine.specs.Branches as spec;
 
 use crate::cpu::{Cpu, StepEnd};
-use crate::landing::land;
-use crate::registers::{reg, with_reg};
+use crate::landing::landing_stop;
+use crate::registers::{put_reg, reg};
 
-/// lr with the address of the next instruction.
+/// Leaves the address of the next instruction in lr.
 #[inline]
-fn linked(link: bool, cpu: Cpu) -> Cpu
-    ensures { result ≡ spec.linked link cpu }
+fn link_back(link: bool, cpu: &mut Cpu)
+    ensures { cpu.new ≡ spec.linked link cpu.old }
 {
     if link {
-        with_reg(cpu, 14, cpu.r[15].wrapping_add(4))
-    } else {
-        cpu
+        put_reg(cpu, 14, cpu.r[15].wrapping_add(4));
     }
 }
 
@@ -40,7 +38,8 @@ pub fn branch(link: bool, imm24: u32, cpu: &mut Cpu) -> StepEnd
     ensures { (m : GuestMemory) → record { end_ = result; cpu = cpu.new; memory = m } ≡ spec.branched link imm24 cpu.old m }
 {
     let target = branch_target(cpu.r[15], imm24);
-    *cpu = with_reg(linked(link, *cpu), 15, target);
+    link_back(link, cpu);
+    put_reg(cpu, 15, target);
     StepEnd::Next
 }
 
@@ -51,6 +50,10 @@ pub fn jump(link: bool, m: u8, cpu: &mut Cpu) -> StepEnd
     ensures { (mem : GuestMemory) → record { end_ = result; cpu = cpu.new; memory = mem } ≡ spec.jumped link m cpu.old mem }
 {
     let target = reg(cpu, m);
-    let next = linked(link, *cpu);
-    land(cpu, next, 15, target)
+    if let Some(stop) = landing_stop(15, target) {
+        return StepEnd::Stop(stop);
+    }
+    link_back(link, cpu);
+    put_reg(cpu, 15, target);
+    StepEnd::Next
 }

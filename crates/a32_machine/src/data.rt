@@ -8,8 +8,8 @@ ghost use Rattle.a32_machine.specs.DataProcessing as spec;
 
 use crate::arithmetic::{Outcome, added};
 use crate::cpu::{Cpu, StepEnd};
-use crate::landing::land;
-use crate::registers::{moved_on, reg, with_reg};
+use crate::landing::landing_stop;
+use crate::registers::{move_on, put_reg, reg};
 use crate::shifter::{Shifted, bit_of, operand_of};
 use a32_isa::Arg;
 
@@ -48,19 +48,17 @@ fn outcome_of(op: u8, cpu: &Cpu, a: u32, b: Shifted) -> Outcome
     }
 }
 
+/// The flags that a result sets, where the instruction says so.
 #[inline]
-fn with_flags(s: bool, o: Outcome, cpu: Cpu) -> Cpu
-    ensures { result ≡ spec.with_flags s o cpu }
+fn set_flags(s: bool, o: Outcome, cpu: &mut Cpu)
+    ensures { cpu.new ≡ spec.with_flags s o cpu.old }
 {
-    if !s {
-        return cpu;
+    if s {
+        cpu.n = bit_of(o.value, 31);
+        cpu.z = o.value == 0;
+        cpu.c = o.carry;
+        cpu.v = o.overflow;
     }
-    let mut next = cpu;
-    next.n = bit_of(o.value, 31);
-    next.z = o.value == 0;
-    next.c = o.carry;
-    next.v = o.overflow;
-    next
 }
 
 /// A data operation, of register `n` and the operand, into register `d`.
@@ -73,12 +71,18 @@ pub fn process_data(op: u8, s: bool, n: u8, d: u8, arg: &Arg, cpu: &mut Cpu) -> 
     ensures { (m : GuestMemory) → record { end_ = result; cpu = cpu.new; memory = m } ≡ spec.data_processed op s n d arg.now cpu.old m }
 {
     let o = outcome_of(op, cpu, reg(cpu, n), operand_of(cpu, arg));
-    let next = with_flags(s, o, moved_on(*cpu));
     if 8 <= op && op <= 11 {
-        *cpu = next;
+        move_on(cpu);
+        set_flags(s, o, cpu);
         return StepEnd::Next;
     }
-    land(cpu, next, d, o.value)
+    if let Some(stop) = landing_stop(d, o.value) {
+        return StepEnd::Stop(stop);
+    }
+    move_on(cpu);
+    set_flags(s, o, cpu);
+    put_reg(cpu, d, o.value);
+    StepEnd::Next
 }
 
 /// How many zeros stand above the highest one of a register.
@@ -88,7 +92,8 @@ pub fn count_zeros(d: u8, m: u8, cpu: &mut Cpu) -> StepEnd
     ensures { (mem : GuestMemory) → record { end_ = result; cpu = cpu.new; memory = mem } ≡ spec.zeros_counted d m cpu.old mem }
 {
     let zeros = reg(cpu, m).leading_zeros();
-    *cpu = with_reg(moved_on(*cpu), d, zeros);
+    move_on(cpu);
+    put_reg(cpu, d, zeros);
     StepEnd::Next
 }
 
@@ -97,7 +102,8 @@ pub fn move_wide(d: u8, imm16: u16, cpu: &mut Cpu) -> StepEnd
     requires { d < 16 }
     ensures { (m : GuestMemory) → record { end_ = result; cpu = cpu.new; memory = m } ≡ spec.wide_moved d imm16 cpu.old m }
 {
-    *cpu = with_reg(moved_on(*cpu), d, imm16 as u32);
+    move_on(cpu);
+    put_reg(cpu, d, imm16 as u32);
     StepEnd::Next
 }
 
@@ -107,6 +113,7 @@ pub fn move_top(d: u8, imm16: u16, cpu: &mut Cpu) -> StepEnd
     ensures { (m : GuestMemory) → record { end_ = result; cpu = cpu.new; memory = m } ≡ spec.top_moved d imm16 cpu.old m }
 {
     let v = imm16 as u32 * 0x1_0000 + reg(cpu, d) % 0x1_0000;
-    *cpu = with_reg(moved_on(*cpu), d, v);
+    move_on(cpu);
+    put_reg(cpu, d, v);
     StepEnd::Next
 }

@@ -1,12 +1,13 @@
 //! How a result or a refusal ends an instruction.
 
-ghost use Rattle.std.specs.Prelude.{◌≡◌, ◌<◌};
+ghost use Rattle.std.specs.Prelude.{◌≡◌, ◌<◌, MatchOption};
 ghost use Rattle.guest_mem.specs.Memory.{GuestMemory};
 ghost use Rattle.a32_machine.specs.Stepped as spec;
+ghost use Rattle.a32_machine.specs.Registers.{with_reg};
+ghost use Rattle.a32_machine.specs.declared.cpu.Cpu.{Cpu};
 ghost use Rattle.a32_machine.specs.declared.cpu.StepEnd.TheVariants.{Stop};
 
-use crate::cpu::{Cpu, StepEnd, StepStop};
-use crate::registers::with_reg;
+use crate::cpu::{StepEnd, StepStop};
 use guest_mem::Access;
 
 /// An access that is refused.
@@ -20,15 +21,14 @@ pub fn stop_of(refusal: Access) -> StepEnd
     }
 }
 
-/// A result into a register of `next`, or the address of the next instruction into r15.
+/// Why a result can't go into a register: into r15 goes the address of an instruction alone.
 #[inline]
-pub fn land(cpu: &mut Cpu, next: Cpu, d: u8, v: u32) -> StepEnd
-    requires { d < 16 }
-    ensures { (m : GuestMemory) → record { end_ = result; cpu = cpu.new; memory = m } ≡ spec.landed cpu.old next m d v }
+pub fn landing_stop(d: u8, v: u32) -> Option<StepStop>
+    ensures { (before next : Cpu) (m : GuestMemory) → MatchOption result (spec.landed before next m d v ≡ spec.went_on (with_reg next d v) m) (λ stop. spec.landed before next m d v ≡ spec.stopped before m stop) }
 {
     if d == 15 && v % 4 != 0 {
-        return StepEnd::Stop(StepStop::Unaligned(v));
+        Some(StepStop::Unaligned(v))
+    } else {
+        None
     }
-    *cpu = with_reg(next, d, v);
-    StepEnd::Next
 }

@@ -17,7 +17,7 @@ use crate::data::{count_zeros, move_top, move_wide, process_data};
 use crate::landing::stop_of;
 use crate::multiple::{MultipleTransfer, registers_of, transfer_all};
 use crate::multiply::{LongMultiplication, multiply, multiply_add, multiply_long};
-use crate::registers::{moved_on, reg, whole};
+use crate::registers::{move_on, reg, whole};
 use crate::transfer::{SingleTransfer, Size, half_offset, mem_offset, moved_by, transfer};
 use a32_isa::{Op, decode};
 use guest_mem::Guest;
@@ -55,7 +55,7 @@ fn execute(op: &Op, cpu: &mut Cpu, guest: &mut Guest) -> StepEnd
         Op::Movw { d, imm16 } => move_wide(d, imm16, cpu),
         Op::Movt { d, imm16 } => move_top(d, imm16, cpu),
         Op::Nop => {
-            *cpu = moved_on(*cpu);
+            move_on(cpu);
             StepEnd::Next
         }
         Op::Mem {
@@ -125,7 +125,7 @@ fn execute(op: &Op, cpu: &mut Cpu, guest: &mut Guest) -> StepEnd
         Op::Bx { m } => jump(false, m, cpu),
         Op::Blx { m } => jump(true, m, cpu),
         Op::Svc { imm24 } => {
-            *cpu = moved_on(*cpu);
+            move_on(cpu);
             StepEnd::Service(imm24)
         }
     }
@@ -143,7 +143,7 @@ fn stepped(cpu: &mut Cpu, guest: &mut Guest) -> StepEnd
         return StepEnd::Stop(StepStop::Undefined(word));
     };
     if !holds(i.cond, cpu) {
-        *cpu = moved_on(*cpu);
+        move_on(cpu);
         return StepEnd::Next;
     }
     execute(&i.op, cpu, guest)

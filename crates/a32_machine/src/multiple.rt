@@ -7,7 +7,7 @@ ghost use Rattle.a32_machine.specs.Multiple as spec;
 
 use crate::cpu::{Cpu, StepEnd, StepStop};
 use crate::landing::stop_of;
-use crate::registers::{moved_on, reg, with_reg};
+use crate::registers::{move_on, put_reg, reg};
 use crate::transfer::moved_by;
 use guest_mem::Guest;
 
@@ -61,26 +61,26 @@ fn gather(cpu: &Cpu, registers: &[u8], values: &mut [u32])
 }
 
 /// Registers that get one value each.
-fn spread(cpu: Cpu, registers: &[u8], values: &[u32]) -> Cpu
+#[inline]
+fn spread(cpu: &mut Cpu, registers: &[u8], values: &[u32])
     requires same { length registers.now ≡ length values.now }
     requires registers { (k : ℕ) → slice_index registers.now k < 16 }
-    ensures { result ≡ record cpu { r = spec.with_regs cpu.r registers.now values.now } }
+    ensures { cpu.new ≡ record cpu.old { r = spec.with_regs cpu.old.r registers.now values.now } }
 {
-    let mut next = cpu;
     for i in 0..registers.len() {
-        next = with_reg(next, registers[i], values[i]);
+        put_reg(cpu, registers[i], values[i]);
     }
-    next
 }
 
 /// Registers that are loaded, r15 as the last of them.
-fn land_all(cpu: &mut Cpu, loaded: Cpu) -> StepEnd
-    ensures { (m : GuestMemory) → record { end_ = result; cpu = cpu.new; memory = m } ≡ spec.landed_all cpu.old loaded m }
+#[inline]
+fn land_all(cpu: &mut Cpu, loaded: &Cpu) -> StepEnd
+    ensures { (m : GuestMemory) → record { end_ = result; cpu = cpu.new; memory = m } ≡ spec.landed_all cpu.old loaded.now m }
 {
     if loaded.r[15] % 4 != 0 {
         return StepEnd::Stop(StepStop::Unaligned(loaded.r[15]));
     }
-    *cpu = loaded;
+    *cpu = *loaded;
     StepEnd::Next
 }
 
@@ -94,16 +94,17 @@ pub struct MultipleTransfer {
     pub n: u8,
 }
 
-fn base_moved(t: &MultipleTransfer, count: u32, cpu: &Cpu) -> Cpu
+/// Moves on to the next instruction, and the base behind the words or below them.
+#[inline]
+fn move_base(t: &MultipleTransfer, count: u32, cpu: &mut Cpu)
     requires n { t.now.n < 16 }
     requires few { count ≤ 16 }
-    ensures { result ≡ spec.base_moved t.now.u t.now.w t.now.n count cpu.now }
+    ensures { cpu.new ≡ spec.base_moved t.now.u t.now.w t.now.n count cpu.old }
 {
-    let next = moved_on(*cpu);
+    let moved = moved_by(t.u, reg(cpu, t.n), 4 * count);
+    move_on(cpu);
     if t.w {
-        with_reg(next, t.n, moved_by(t.u, reg(cpu, t.n), 4 * count))
-    } else {
-        next
+        put_reg(cpu, t.n, moved);
     }
 }
 
@@ -122,19 +123,23 @@ pub fn transfer_all(
     let listed = &registers.places[..registers.count];
     let count = registers.count as u32;
     let lowest = lowest_of(t.p, t.u, reg(cpu, t.n), count);
-    let next = base_moved(t, count, cpu);
     let mut all = [0u32; 16];
     let values = &mut all[..registers.count];
     if t.load {
         match guest.read_words(lowest, values) {
-            Ok(()) => land_all(cpu, spread(next, listed, values)),
+            Ok(()) => {
+                let mut loaded = *cpu;
+                move_base(t, count, &mut loaded);
+                spread(&mut loaded, listed, values);
+                land_all(cpu, &loaded)
+            }
             Err(refusal) => stop_of(refusal),
         }
     } else {
         gather(cpu, listed, values);
         match guest.write_words(lowest, values) {
             Ok(()) => {
-                *cpu = next;
+                move_base(t, count, cpu);
                 StepEnd::Next
             }
             Err(refusal) => stop_of(refusal),

@@ -5,7 +5,7 @@ ghost use Rattle.guest_mem.specs.Memory.{GuestMemory};
 ghost use Rattle.a32_machine.specs.Multiplication as spec;
 
 use crate::cpu::{Cpu, StepEnd};
-use crate::registers::{moved_on, reg, with_reg};
+use crate::registers::{move_on, put_reg, reg};
 use crate::shifter::bit_of;
 
 /// A product into a register.
@@ -13,12 +13,12 @@ fn keep_product(s: bool, d: u8, product: u32, cpu: &mut Cpu) -> StepEnd
     requires { d < 16 }
     ensures { (mem : GuestMemory) → record { end_ = result; cpu = cpu.new; memory = mem } ≡ spec.product_kept s d product cpu.old mem }
 {
-    let mut next = moved_on(*cpu);
+    move_on(cpu);
     if s {
-        next.n = bit_of(product, 31);
-        next.z = product == 0;
+        cpu.n = bit_of(product, 31);
+        cpu.z = product == 0;
     }
-    *cpu = with_reg(next, d, product);
+    put_reg(cpu, d, product);
     StepEnd::Next
 }
 
@@ -105,11 +105,12 @@ pub fn multiply_long(long: LongMultiplication, cpu: &mut Cpu) -> StepEnd
     let product = long_result(kind, reg(cpu, m), reg(cpu, s2), held);
     let high = (product / 0x1_0000_0000) as u32;
     let low = (product % 0x1_0000_0000) as u32;
-    let mut next = moved_on(*cpu);
+    move_on(cpu);
     if s {
-        next.n = bit_of(high, 31);
-        next.z = product == 0;
+        cpu.n = bit_of(high, 31);
+        cpu.z = product == 0;
     }
-    *cpu = with_reg(with_reg(next, lo, low), hi, high);
+    put_reg(cpu, lo, low);
+    put_reg(cpu, hi, high);
     StepEnd::Next
 }

@@ -32,20 +32,19 @@ pub fn reg(cpu: &Cpu, n: u8) -> u32
     }
 }
 
+/// Puts a value into a register.
 #[inline]
-pub fn with_reg(cpu: Cpu, n: u8, v: u32) -> Cpu
+pub fn put_reg(cpu: &mut Cpu, n: u8, v: u32)
     requires { n < 16 }
-    ensures { result ≡ spec.with_reg cpu n v }
+    ensures { cpu.new ≡ spec.with_reg cpu.old n v }
 {
-    let mut next = cpu;
-    next.r[n as usize] = v;
-    next
+    cpu.r[n as usize] = v;
 }
 
-/// On to the next instruction.
+/// Moves on to the next instruction.
 #[inline]
-pub fn moved_on(cpu: Cpu) -> Cpu
-    ensures { result ≡ spec.moved_on cpu }
+pub fn move_on(cpu: &mut Cpu)
+    ensures { cpu.new ≡ spec.moved_on cpu.old }
 {
-    with_reg(cpu, 15, cpu.r[15].wrapping_add(4))
+    cpu.r[15] = cpu.r[15].wrapping_add(4);
 }

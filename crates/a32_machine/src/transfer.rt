@@ -7,8 +7,8 @@ ghost use Rattle.a32_isa.specs.Table.{half_low, mem_off_fields};
 ghost use Rattle.a32_machine.specs.Transfers as spec;
 
 use crate::cpu::{Cpu, StepEnd};
-use crate::landing::{land, stop_of};
-use crate::registers::{moved_on, reg, with_reg};
+use crate::landing::{landing_stop, stop_of};
+use crate::registers::{move_on, put_reg, reg};
 use crate::shifter::{bit_of, shifted_at};
 use a32_isa::{HalfOff, MemOff};
 use guest_mem::{Access, Guest};
@@ -106,15 +106,14 @@ fn store(guest: &mut Guest, size: Size, addr: u32, v: u32) -> Result<(), Access>
     }
 }
 
+/// Leaves the base moved, where the transfer says so.
 #[inline]
-fn written_back(t: &SingleTransfer, cpu: Cpu) -> Cpu
+fn write_back(t: &SingleTransfer, cpu: &mut Cpu)
     requires { t.now.n < 16 }
-    ensures { result ≡ spec.written_back t.now.p t.now.w t.now.n t.now.moved cpu }
+    ensures { cpu.new ≡ spec.written_back t.now.p t.now.w t.now.n t.now.moved cpu.old }
 {
-    if t.p && !t.w {
-        cpu
-    } else {
-        with_reg(cpu, t.n, t.moved)
+    if !t.p || t.w {
+        put_reg(cpu, t.n, t.moved);
     }
 }
 
@@ -127,17 +126,24 @@ pub fn transfer(t: &SingleTransfer, cpu: &mut Cpu, guest: &mut Guest) -> StepEnd
     ensures { record { end_ = result; cpu = cpu.new; memory = guest.new } ≡ spec.transferred t.now.load t.now.signed t.now.size t.now.p t.now.w t.now.n t.now.d t.now.moved cpu.old guest.old }
 {
     let addr = if t.p { t.moved } else { reg(cpu, t.n) };
-    let next = written_back(t, moved_on(*cpu));
     if t.load {
-        match load(guest, t.signed, t.size, addr) {
-            Ok(v) => land(cpu, next, t.d, v),
-            Err(refusal) => stop_of(refusal),
+        let v = match load(guest, t.signed, t.size, addr) {
+            Ok(v) => v,
+            Err(refusal) => return stop_of(refusal),
+        };
+        if let Some(stop) = landing_stop(t.d, v) {
+            return StepEnd::Stop(stop);
         }
+        move_on(cpu);
+        write_back(t, cpu);
+        put_reg(cpu, t.d, v);
+        StepEnd::Next
     } else {
         let v = reg(cpu, t.d);
         match store(guest, t.size, addr, v) {
             Ok(()) => {
-                *cpu = next;
+                move_on(cpu);
+                write_back(t, cpu);
                 StepEnd::Next
             }
             Err(refusal) => stop_of(refusal),

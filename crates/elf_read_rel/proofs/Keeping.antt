@@ -1,11 +1,9 @@
 -- One more section header is done.
-use Rattle.std.proofs.Common.{◌≡◌, ℕ, ◌+◌, ◌≤◌, Bool, true, false, cond, List, [], ◌∷◌, ◌++◌, length, map, Option, Some, None, refl, sym, ap, ◌∙◌, arith, append-nil, length-append, add-zero}
-use Rattle.std.specs.Prelude.{filter}
+use Rattle.std.proofs.Common.{◌≡◌, ℕ, ◌+◌, ◌≤◌, true, false, cond, List, [], ◌∷◌, ◌++◌, length, map, Some, None, sym, ap, ◌∙◌, arith, append-nil, length-append}
 use Rattle.std.specs.List.{range_with_len, sum_by}
 use Rattle.std.proofs.lemmas.List.FromFn.{map-range_with_len_more, filter_of_map_range_with_len_more}
 use Rattle.std.proofs.lemmas.List.Sums.{sum_by-append}
 use Rattle.elf_model.specs.declared.constants.TheConstants.{MAX_SECTION_BYTES}
-use Rattle.elf_model.specs.declared.table.SectionHeader.{SectionHeader}
 use Rattle.elf_model.specs.Sections.{section_header}
 use Rattle.elf_model.specs.RelSections.{is_kept, kept_below, kept_number, bytes_in_file, bytes_so_far}
 use Rattle.elf_read_rel.specs.declared.kept.Kept.{Kept}

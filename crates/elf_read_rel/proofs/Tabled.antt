@@ -1,5 +1,5 @@
 -- The section of the symbols, whose tests hold.
-use Rattle.std.proofs.Common.{◌≡◌, ℕ, ◌+◌, ◌/◌, ◌%◌, ◌<◌, ◌≤◌, Bool, true, false, not, ◌||◌, ◌==◌, List, [], ◌∷◌, length, Option, Some, None}
+use Rattle.std.proofs.Common.{◌≡◌, ℕ, ◌+◌, ◌/◌, ◌%◌, ◌<◌, not, ◌||◌, ◌==◌, List, length, Option, Some, None}
 use Rattle.std.specs.Prelude.{nat_lt, IfSome}
 use Rattle.std.proofs.lemmas.Bool.{and_parts, or_parts, ltb-true, ltb-false, not-false, not-true}
 use Rattle.elf_model.specs.declared.constants.TheConstants.{SYM_SIZE, MAX_ENTRIES}

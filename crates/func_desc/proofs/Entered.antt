@@ -4,7 +4,7 @@ use Rattle.std.specs.Prelude.{Contains, slice_get, is_some}
 use Rattle.std.specs.List.{range_with_len}
 use Rattle.std.specs.Ordering.{eq_by_cmp}
 use Rattle.std.specs.FinMap.{get, find, len, get-from_entries, len-insert, len-empty}
-use Rattle.std.proofs.lemmas.Bool.{false≢true, cases_eq, cases_Bool, eq-eqb, ne_eqb}
+use Rattle.std.proofs.lemmas.Bool.{false≢true, cases_eq, cases_Bool, eq-eqb, ne_eqb, or_right}
 use Rattle.fd_base.proofs.Members.{contains_first, contains_later}
 use Rattle.elf_model.specs.declared.func.Func.{Func}
 use Rattle.func_desc.specs.Functions.{func_cmp, has_addr}
@@ -12,7 +12,7 @@ use Rattle.func_desc.specs.Pool.{slot_addr, free_slots}
 use Rattle.func_desc.specs.parts.Dropped.{AreDropped}
 use Rattle.func_desc.specs.parts.Inside.{addrs_of, is_entered, is_of_another, free_in, AreMarked, AreOnce}
 use Rattle.func_desc.specs.parts.Slots.{unmarked}
-use Rattle.func_desc.proofs.Values.{func_total, tied_func, has_addr-insert, has_addr-empty}
+use Rattle.func_desc.proofs.Values.{or_swap, func_total, tied_func, has_addr-insert, has_addr-empty}
 use Rattle.func_desc.proofs.Contained.{slot_addrs, rising_slots}
 
 -- ---- maps of entries
@@ -127,16 +127,12 @@ pub lowest_taken : (a : ℕ) (q : ℕ → Bool) (xs : List ℕ) → AllPairs (λ
 lowest_taken a q [] rising first = cc
 lowest_taken a q (x ∷ xs) rising first = go (q x) refl (lowest_taken a q xs (rising_rest x xs rising)) first
   where
-    or_true : (b c : Bool) → c ≡ true → (b || c) ≡ true
-    or_true true c is = refl
-    or_true false c is = is
-
     go : (b : Bool) → q x ≡ b → (slice_get (filter (λ y. not (q y)) xs) 0 ≡ Some a → filter (λ y. not (a == y || q y)) xs ≡ drop 1 (filter (λ y. not (q y)) xs))
         → slice_get (cond (not b) (x ∷ filter (λ y. not (q y)) xs) (filter (λ y. not (q y)) xs)) 0 ≡ Some a
         → cond (not (a == x || q x)) (x ∷ filter (λ y. not (a == y || q y)) xs) (filter (λ y. not (a == y || q y)) xs)
         ≡ drop 1 (cond (not (q x)) (x ∷ filter (λ y. not (q y)) xs) (filter (λ y. not (q y)) xs))
     go true had rest f =
-        ap (λ c. cond (not c) (x ∷ filter (λ y. not (a == y || q y)) xs) (filter (λ y. not (a == y || q y)) xs)) (or_true (a == x) (q x) had)
+        ap (λ c. cond (not c) (x ∷ filter (λ y. not (a == y || q y)) xs) (filter (λ y. not (a == y || q y)) xs)) (or_right (a == x) (q x) had)
         ∙ rest f
         ∙ ap (λ c. drop 1 (cond (not c) (x ∷ filter (λ y. not (q y)) xs) (filter (λ y. not (q y)) xs))) (sym had)
     go false had rest f =
@@ -167,13 +163,7 @@ freed_one a q (x ∷ xs) rising = elim (cases_eq a x) [
 
 is_entered-middle : (front : List (Func × ℕ)) (e : Func × ℕ) (es : List (Func × ℕ)) (x : ℕ) → is_entered (front ++ e ∷ es) x ≡ (e.1 == x || is_entered (front ++ es) x)
 is_entered-middle [] e es x = refl
-is_entered-middle (first ∷ front) e es x = ap (λ b. first.1 == x || b) (is_entered-middle front e es x) ∙ or_swap (first.1 == x) (e.1 == x) (is_entered (front ++ es) x)
-  where
-    or_swap : (a b c : Bool) → (a || (b || c)) ≡ (b || (a || c))
-    or_swap true true c = refl
-    or_swap true false c = refl
-    or_swap false true c = refl
-    or_swap false false c = refl
+is_entered-middle (first ∷ front) e es x = ap (λ b. first.1 == x || b) (is_entered-middle front e es x) ∙ or_swap (e.1 == x) (first.1 == x) (is_entered (front ++ es) x)
 
 filter_same : (p q : ℕ → Bool) (xs : List ℕ) → ((x : ℕ) → p x ≡ q x) → filter p xs ≡ filter q xs
 filter_same p q [] same = refl

@@ -15,6 +15,7 @@ use Rattle.idx_links.proofs.Owned.{found_itself}
 use Rattle.idx_links.proofs.Walked.{from_node}
 use Rattle.func_desc.specs.Pool.{slot_addr}
 use Rattle.func_desc.specs.parts.Buckets.{AreBucketed, in_bucket, values}
+use Rattle.func_desc.proofs.Values.{or_swap}
 use Rattle.func_desc.specs.parts.Inside.{is_of_another, is_entered, AreMarked}
 
 abbrev Entry : Type 0
@@ -161,13 +162,7 @@ here number base old now marks at id at_is left = go left.rest left.was left.is 
 
 is_entered-push : (es : List (Func × ℕ)) (e : Func × ℕ) (x : ℕ) → is_entered (es ++ e ∷ []) x ≡ (e.1 == x || is_entered es x)
 is_entered-push [] e x = refl
-is_entered-push (first ∷ es) e x = ap (λ b. first.1 == x || b) (is_entered-push es e x) ∙ or_swap (first.1 == x) (e.1 == x) (is_entered es x)
-  where
-    or_swap : (a b c : Bool) → (a || (b || c)) ≡ (b || (a || c))
-    or_swap true true c = refl
-    or_swap true false c = refl
-    or_swap false true c = refl
-    or_swap false false c = refl
+is_entered-push (first ∷ es) e x = ap (λ b. first.1 == x || b) (is_entered-push es e x) ∙ or_swap (e.1 == x) (first.1 == x) (is_entered es x)
 
 module _ (number base : ℕ) (old now : Nodes (Func × ℕ)) (marks : List Bool) (id : ℕ) (h : IsHere number base old now marks id) where
   abbrev both : List Entry

@@ -49,7 +49,7 @@ tied_self f = ap is_eq (tied_itself func_total f)
 abbrev pub has_value : List (Func × ℕ) → ℕ → Bool
 has_value es a = list_any (λ own. own == a) (map (λ e. e.1) es)
 
-or_swap : (a b c : Bool) → (b || (a || c)) ≡ (a || (b || c))
+pub or_swap : (a b c : Bool) → (b || (a || c)) ≡ (a || (b || c))
 or_swap true true c = refl
 or_swap true false c = refl
 or_swap false true c = refl

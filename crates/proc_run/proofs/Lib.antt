@@ -1,6 +1,7 @@
 pub mod Begins
 pub mod FirstLive
 mod LivePlaces
+mod QuietRuns
 pub mod StartRefusals
 pub mod RunEnds
 pub mod RunParts

@@ -2,9 +2,12 @@
 use Rattle.std.proofs.Common.{◌≡◌, ℕ, suc, ◌+◌, ◌-◌, ◌<◌, ◌≤◌, true, false, List, [], ◌++◌, Option, Some, None, Result, Ok, Err, length, get_or, drop, refl, sym, ap, subst, ◌∙◌, arith, add-one, append-nil, append_assoc}
 use Rattle.std.proofs.lemmas.Bool.{le-leb}
 use Rattle.std.proofs.lemmas.List.{drop_all, drop_more}
+use Rattle.fd_base.specs.declared.sink.SinkErr.{SinkErr}
+use Rattle.fd_base.specs.declared.sink.SinkErr.TheVariants as sink
+use Rattle.fd_base.specs.Faults.{Rose}
 use Rattle.fd_base.specs.Grown.{Grew, GrewByPart}
 use Rattle.fd_base.proofs.Changing.{rose_earlier}
-use Rattle.fd_base.proofs.Growing.{grew_nothing}
+use Rattle.fd_base.proofs.Growing.{grew_no_part, grew_nothing}
 use Rattle.run_model.specs.declared.job.Turn.{Turn}
 use Rattle.run_model.specs.declared.event.Event.{Event}
 use Rattle.run_model.specs.declared.event.Stop.{Stop}
@@ -15,13 +18,15 @@ use Rattle.run_model.specs.declared.thread.Turned.TheVariants as turned
 use Rattle.run_model.specs.Courses.{Course, after_turn, before, course_of, ends, followed, freely, turns_of, unscheduled}
 use Rattle.run_model.specs.Report.{report_of}
 use Rattle.run_model.specs.State.{State, lives, live_from, thread_at}
+use Rattle.run_report.specs.parts.PieceByPiece.{Puts}
 use Rattle.run_model.specs.Turns.{Taken, stopped, turn_of, turned_at}
 use Rattle.proc_run.specs.declared.end.Going.{Going}
-use Rattle.proc_run.specs.declared.end.Going.TheVariants.{Others}
+use Rattle.proc_run.specs.declared.end.Going.TheVariants.{Same, Others}
 use Rattle.proc_run.specs.declared.end.RunEnd.{RunEnd}
 use Rattle.proc_run.specs.declared.end.RunEnd.TheVariants.{Ended, Stopped, Refused, StoreFault, SinkFault, Memory}
 use Rattle.proc_run.specs.RunParts.{DoesPart, EndsAs, IsLeft, after_step, schedule_of}
 use Rattle.proc_run.specs.RunningProcess.{Running}
+use Rattle.proc_run.specs.parts.QuietRuns.{IsChain}
 use Rattle.proc_run.specs.parts.Turns.{IsTaken, taken_by, text_of, with_lines}
 use Rattle.proc_run.proofs.LivePlaces.{one_lives}
 use Rattle.fd_base.proofs.Options.{none_of}
@@ -83,6 +88,16 @@ left_as a b c out later is h = subst (λ (x : Course). IsLeft a x out later) is 
 events_of_turn : (p : Running) (t : ℕ) (out later : Option (List ℕ)) → p.pending ≡ [] → Grew out later (text_of p t) → Grew out later (report_of (taken_by p t).events)
 events_of_turn p t out later none h = subst (λ (es : List Event). Grew out later (report_of (es ++ (taken_by p t).events))) none h
 
+begins_with : (answer : Turned) (es : List Event) (a b : Course) → (rest : List Event) × ((followed answer es a b).events ≡ es ++ rest)
+begins_with turned.Next es a b = (a.events, refl)
+begins_with turned.Yield es a b = (b.events, refl)
+begins_with turned.ThreadDone es a b = (b.events, refl)
+begins_with turned.Ended es a b = ([], sym (append-nil es))
+begins_with (turned.Stopped why) es a b = ([], sym (append-nil es))
+begins_with turned.StoreFault es a b = ([], sym (append-nil es))
+begins_with turned.SinkFault es a b = ([], sym (append-nil es))
+begins_with turned.Memory es a b = ([], sym (append-nil es))
+
 module _ (p : Running) (t : ℕ) (new : Running) (same others : State → Course) (none : p.pending ≡ []) where
   abbrev whole : Course
   whole = after_turn (taken_by p t) same others
@@ -124,16 +139,6 @@ module _ (p : Running) (t : ℕ) (new : Running) (same others : State → Course
   pub stops : (out later : Option (List ℕ)) (old after : ℕ) (why : Stop) → IsTaken p t new (turned.Stopped why) out later → EndsAs (Stopped why) whole out later old after
   stops out later old after why h = ends_whole (turned.Stopped why) out later (follows (turned.Stopped why) h.answer') h
 
-  begins_with : (answer : Turned) (es : List Event) (a b : Course) → (rest : List Event) × ((followed answer es a b).events ≡ es ++ rest)
-  begins_with turned.Next es a b = (a.events, refl)
-  begins_with turned.Yield es a b = (b.events, refl)
-  begins_with turned.ThreadDone es a b = (b.events, refl)
-  begins_with turned.Ended es a b = ([], sym (append-nil es))
-  begins_with (turned.Stopped why) es a b = ([], sym (append-nil es))
-  begins_with turned.StoreFault es a b = ([], sym (append-nil es))
-  begins_with turned.SinkFault es a b = ([], sym (append-nil es))
-  begins_with turned.Memory es a b = ([], sym (append-nil es))
-
   pub part_put : (out later : Option (List ℕ)) → GrewByPart out later (text_of p t) → GrewByPart out later (report_of whole.events)
   part_put out later h =
       let own : GrewByPart out later (report_of (taken_by p t).events) = subst (λ (es : List Event). GrewByPart out later (report_of (es ++ (taken_by p t).events))) none h in
@@ -145,31 +150,29 @@ module _ (p : Running) (t : ℕ) (new : Running) (same others : State → Course
 
 -- ---- turns of a schedule
 
-pub one_turn : (limit t : ℕ) (rest : State → Course) (n k : ℕ) (s : State) → k < n
-    → turns_of limit t rest (n - k) s ≡ after_turn (turn_of limit s t) (turns_of limit t rest (n - (k + 1))) rest
-one_turn limit t rest n k s lt = let e : n - k ≡ suc (n - (k + 1)) = omega arith in rw e refl
+next_left : (left : ℕ) → 0 < left → left ≡ suc (left - 1)
+next_left left lt = omega arith
 
 -- a thread that doesn't live does nothing
-pub dead_turn : (limit t : ℕ) (rest : State → Course) (n k : ℕ) (s : State) → k < n → lives s.threads t ≡ false → turns_of limit t rest (n - k) s ≡ rest s
+pub dead_turn : (limit t : ℕ) (rest : State → Course) (left : ℕ) (s : State) → 0 < left → lives s.threads t ≡ false → turns_of limit t rest left s ≡ rest s
 unfolding turn_of
-dead_turn limit t rest n k s lt dead =
+dead_turn limit t rest left s lt dead =
     let none : thread_at s.threads t ≡ None = none_of (thread_at s.threads t) dead in
-    one_turn limit t rest n k s lt ∙ ap (λ (o : Option Thread). after_turn (turned_at limit s t o) (turns_of limit t rest (n - (k + 1))) rest) none
+    ap (λ (n : ℕ). turns_of limit t rest n s) (next_left left lt)
+    ∙ ap (λ (o : Option Thread). after_turn (turned_at limit s t o) (turns_of limit t rest (left - 1)) rest) none
 
-pub no_turn : (limit t : ℕ) (rest : State → Course) (n k : ℕ) (s : State) → n ≤ k → turns_of limit t rest (n - k) s ≡ rest s
-no_turn limit t rest n k s le = let e : n - k ≡ 0 = omega arith in rw e refl
+pub no_turn : (limit t : ℕ) (rest : State → Course) (left : ℕ) (s : State) → left ≤ 0 → turns_of limit t rest left s ≡ rest s
+no_turn limit t rest left s le = let none : left ≡ 0 = omega arith in rw none refl
 
--- a step of a turn
-pub turn_part : (lim own t n k : ℕ) (rest : State → Course) (whole : Course) (s later : State) (out mid last : Option (List ℕ)) (old between new : ℕ) (r : Result Going RunEnd)
-    → k < n → own ≡ lim → old ≤ between → between ≤ new → IsLeft whole (turns_of lim t rest (n - k) s) out mid
-    → ((same others : State → Course) → DoesPart (after_turn (turn_of own s t) same others) (after_step (same later) (others later)) mid last between new r)
-    → DoesPart whole (after_step (turns_of lim t rest (n - (k + 1)) later) (rest later)) out last old new r
-turn_part lim own t n k rest whole s later out mid last old between new r lt is f g h does =
-    let more = turns_of lim t rest (n - (k + 1)) in
-    let P : ℕ → Type 0 = λ l. DoesPart (after_turn (turn_of l s t) more rest) (after_step (more later) (rest later)) mid last between new r in
-    does_then r whole (after_turn (turn_of lim s t) more rest) (after_step (more later) (rest later)) out mid last old between new f g
-    (left_as whole (turns_of lim t rest (n - k) s) (after_turn (turn_of lim s t) more rest) out mid (one_turn lim t rest n k s lt) h)
-    (subst P is (does more rest))
+-- some steps of a turn
+pub turn_part : (lim own t left later : ℕ) (rest : State → Course) (whole : Course) (s new : State) (out mid last : Option (List ℕ)) (old between after : ℕ) (r : Result Going RunEnd)
+    → own ≡ lim → old ≤ between → between ≤ after → IsLeft whole (turns_of lim t rest left s) out mid
+    → ((same others : ℕ → State → Course) → IsChain own t same others → DoesPart (same left s) (after_step (same later new) (others later new)) mid last between after r)
+    → DoesPart whole (after_step (turns_of lim t rest later new) (rest new)) out last old after r
+turn_part lim own t left later rest whole s new out mid last old between after r is f g h does =
+    let chain : IsChain own t (turns_of lim t rest) (λ n. rest) = subst (λ (l : ℕ). IsChain l t (turns_of lim t rest) (λ n. rest)) (sym is) (λ n x. refl) in
+    does_then r whole (turns_of lim t rest left s) (after_step (turns_of lim t rest later new) (rest new)) out mid last old between after f g h
+    (does (turns_of lim t rest) (λ n. rest) chain)
 
 -- the next turn of a schedule
 next_turn : (limit : ℕ) (turns : List Turn) (i : ℕ) (d : Turn) (s : State) → i < length turns
@@ -212,60 +215,114 @@ at_limit e limit s t out later old new live le does =
     let P : Taken → Type 0 = λ x. after_turn x none none ≡ ends x.events x.answer in
     subst (λ (c : Course). EndsAs e c out later old new) (subst P (sym (stopped_at limit s t live le)) refl) (does none none)
 
+abbrev freely_same : ℕ → ℕ → ℕ → State → Course
+freely_same limit t n s = freely limit n (Some t) s
+
+abbrev freely_others : ℕ → ℕ → ℕ → State → Course
+freely_others limit t n s = freely limit n (live_from s.threads (suc t)) s
+
+abbrev DoesChain : ℕ → ℕ → ℕ → State → ℕ → State → Option (List ℕ) → Option (List ℕ) → ℕ → ℕ → Result Going RunEnd → Type 0
+DoesChain limit t left s later new out mid old after r =
+    (same others : ℕ → State → Course) → IsChain limit t same others → DoesPart (same left s) (after_step (same later new) (others later new)) out mid old after r
+
+freely_does : (limit t left later : ℕ) (s new : State) (out mid : Option (List ℕ)) (old after : ℕ) (r : Result Going RunEnd) → DoesChain limit t left s later new out mid old after r
+    → DoesPart (freely limit left (Some t) s) (after_step (freely_same limit t later new) (freely_others limit t later new)) out mid old after r
+freely_does limit t left later s new out mid old after r does = does (freely_same limit t) (freely_others limit t) (λ n x. refl)
+
+-- the same thread goes on
+pub same_goes : (limit t left later : ℕ) (s new : State) (out mid : Option (List ℕ)) (old after : ℕ) (r : Result Going RunEnd) → r ≡ Ok Same → DoesChain limit t left s later new out mid old after r
+    → IsLeft (freely limit left (Some t) s) (freely limit later (Some t) new) out mid
+same_goes limit t left later s new out mid old after r is does =
+    subst (DoesPart (freely limit left (Some t) s) (after_step (freely_same limit t later new) (freely_others limit t later new)) out mid old after) is
+    (freely_does limit t left later s new out mid old after r does)
+
+found_goes : (limit t left later : ℕ) (s new : State) (out mid : Option (List ℕ)) (old after : ℕ) (r : Result Going RunEnd) (found : Option ℕ)
+    → r ≡ Ok Others → found ≡ live_from new.threads (t + 1) → DoesChain limit t left s later new out mid old after r
+    → IsLeft (freely limit left (Some t) s) (freely limit later found new) out mid
+found_goes limit t left later s new out mid old after r found is from does =
+    let one : live_from new.threads (suc t) ≡ found = ap (live_from new.threads) (sym (add-one t)) ∙ sym from in
+    left_as (freely limit left (Some t) s) (freely_others limit t later new) (freely limit later found new) out mid (ap (λ (o : Option ℕ). freely limit later o new) one)
+    (subst (DoesPart (freely limit left (Some t) s) (after_step (freely_same limit t later new) (freely_others limit t later new)) out mid old after) is
+    (freely_does limit t left later s new out mid old after r does))
+
 -- the next thread goes on
-pub next_goes : (limit most t next : ℕ) (s later : State) (out mid : Option (List ℕ)) (old new : ℕ) (r : Result Going RunEnd) (found : Option ℕ)
-    → r ≡ Ok Others → found ≡ live_from later.threads (t + 1) → found ≡ Some next
-    → ((same others : State → Course) → DoesPart (after_turn (turn_of limit s t) same others) (after_step (same later) (others later)) out mid old new r)
-    → IsLeft (freely limit (suc most) (Some t) s) (freely limit most (Some next) later) out mid
-next_goes limit most t next s later out mid old new r found is from some does =
-    let same : State → Course = freely limit most (Some t) in
-    let others : State → Course = λ x. freely limit most (live_from x.threads (suc t)) x in
-    let whole : Course = freely limit (suc most) (Some t) s in
-    let one : live_from later.threads (suc t) ≡ Some next = ap (live_from later.threads) (sym (add-one t)) ∙ sym from ∙ some in
-    left_as whole (others later) (freely limit most (Some next) later) out mid (ap (λ (o : Option ℕ). freely limit most o later) one)
-    (subst (DoesPart whole (after_step (same later) (others later)) out mid old new) is (does same others))
+pub next_goes : (limit t left later next : ℕ) (s new : State) (out mid : Option (List ℕ)) (old after : ℕ) (r : Result Going RunEnd) (found : Option ℕ)
+    → r ≡ Ok Others → found ≡ live_from new.threads (t + 1) → found ≡ Some next → DoesChain limit t left s later new out mid old after r
+    → IsLeft (freely limit left (Some t) s) (freely limit later (Some next) new) out mid
+next_goes limit t left later next s new out mid old after r found is from some does =
+    left_as (freely limit left (Some t) s) (freely limit later found new) (freely limit later (Some next) new) out mid (ap (λ (o : Option ℕ). freely limit later o new) some)
+    (found_goes limit t left later s new out mid old after r found is from does)
+
+-- the run is over
+pub run_over : (e : RunEnd) (limit t left later : ℕ) (s new : State) (out mid : Option (List ℕ)) (old after : ℕ) (r : Result Going RunEnd) → r ≡ Err e → DoesChain limit t left s later new out mid old after r
+    → EndsAs e (freely limit left (Some t) s) out mid old after
+run_over e limit t left later s new out mid old after r is does =
+    subst (DoesPart (freely limit left (Some t) s) (after_step (freely_same limit t later new) (freely_others limit t later new)) out mid old after) is
+    (freely_does limit t left later s new out mid old after r does)
 
 -- nobody lives
 nobody : (whole : Course) (out later : Option (List ℕ)) (old new : ℕ) → IsLeft whole (ends [] turned.Ended) out later → EndsAs Ended whole out later old new
 nobody whole out later old new h =
     (answer_is whole (ends [] turned.Ended) out later h, all_grew whole (ends [] turned.Ended) out later later h (grew_nothing later later refl))
 
-pub none_goes : (limit most t : ℕ) (s later : State) (out mid : Option (List ℕ)) (old new : ℕ) (r : Result Going RunEnd) (found : Option ℕ)
-    → r ≡ Ok Others → found ≡ live_from later.threads (t + 1) → found ≡ None
-    → ((same others : State → Course) → DoesPart (after_turn (turn_of limit s t) same others) (after_step (same later) (others later)) out mid old new r)
-    → EndsAs Ended (freely limit (suc most) (Some t) s) out mid old new
-none_goes limit most t s later out mid old new r found is from none does =
-    let same : State → Course = freely limit most (Some t) in
-    let others : State → Course = λ x. freely limit most (live_from x.threads (suc t)) x in
-    let whole : Course = freely limit (suc most) (Some t) s in
-    let no_one : live_from later.threads (suc t) ≡ None = ap (live_from later.threads) (sym (add-one t)) ∙ sym from ∙ none in
-    nobody whole out mid old new
-    (left_as whole (others later) (ends [] turned.Ended) out mid (ap (λ (o : Option ℕ). freely limit most o later) no_one)
-    (subst (DoesPart whole (after_step (same later) (others later)) out mid old new) is (does same others)))
+pub none_goes : (limit t left later : ℕ) (s new : State) (out mid : Option (List ℕ)) (old after : ℕ) (r : Result Going RunEnd) (found : Option ℕ)
+    → r ≡ Ok Others → found ≡ live_from new.threads (t + 1) → found ≡ None → DoesChain limit t left s later new out mid old after r
+    → EndsAs Ended (freely limit left (Some t) s) out mid old after
+none_goes limit t left later s new out mid old after r found is from none does =
+    nobody (freely limit left (Some t) s) out mid old after
+    (left_as (freely limit left (Some t) s) (freely limit later found new) (ends [] turned.Ended) out mid (ap (λ (o : Option ℕ). freely limit later o new) none)
+    (found_goes limit t left later s new out mid old after r found is from does))
 
--- a step of many
-pub freely_part : (lim own n k t : ℕ) (whole : Course) (s later : State) (out mid last : Option (List ℕ)) (old between new : ℕ) (r : Result ℕ RunEnd)
-    → k < n → own ≡ lim → old ≤ between → between ≤ new → IsLeft whole (freely lim (n - k) (Some t) s) out mid
-    → ((most : ℕ) → DoesPart (freely own (suc most) (Some t) s) (λ next. freely own most (Some next) later) mid last between new r)
-    → DoesPart whole (λ next. freely lim (n - (k + 1)) (Some next) later) out last old new r
-freely_part lim own n k t whole s later out mid last old between new r lt is f g h does =
-    let most = n - (k + 1) in
-    let next_is : n - k ≡ suc most = omega arith in
-    let P : ℕ → Type 0 = λ l. DoesPart (freely l (suc most) (Some t) s) (λ next. freely l most (Some next) later) mid last between new r in
-    does_then r whole (freely lim (suc most) (Some t) s) (λ next. freely lim most (Some next) later) out mid last old between new f g
-    (left_as whole (freely lim (n - k) (Some t) s) (freely lim (suc most) (Some t) s) out mid (ap (λ (m : ℕ). freely lim m (Some t) s) next_is) h)
-    (subst P is (does most))
+-- some steps of many
+pub freely_part : (lim own left later t : ℕ) (whole : Course) (s new : State) (out mid last : Option (List ℕ)) (old between after : ℕ) (r : Result ℕ RunEnd)
+    → own ≡ lim → old ≤ between → between ≤ after → IsLeft whole (freely lim left (Some t) s) out mid
+    → DoesPart (freely own left (Some t) s) (λ next. freely own later (Some next) new) mid last between after r
+    → DoesPart whole (λ next. freely lim later (Some next) new) out last old after r
+freely_part lim own left later t whole s new out mid last old between after r is f g h does =
+    let P : ℕ → Type 0 = λ l. DoesPart (freely l left (Some t) s) (λ next. freely l later (Some next) new) mid last between after r in
+    does_then r whole (freely lim left (Some t) s) (λ next. freely lim later (Some next) new) out mid last old between after f g h (subst P is does)
 
 -- the last one
-pub freely_over : (e : RunEnd) (lim own n k t : ℕ) (whole : Course) (s : State) (out mid last : Option (List ℕ)) (old between new : ℕ)
-    → n ≤ k → own ≡ lim → old ≤ between → between ≤ new → IsLeft whole (freely lim (n - k) (Some t) s) out mid
+pub freely_over : (e : RunEnd) (lim own left t : ℕ) (whole : Course) (s : State) (out mid last : Option (List ℕ)) (old between new : ℕ)
+    → left ≤ 0 → own ≡ lim → old ≤ between → between ≤ new → IsLeft whole (freely lim left (Some t) s) out mid
     → EndsAs e (freely own 0 (Some t) s) mid last between new → EndsAs e whole out last old new
-freely_over e lim own n k t whole s out mid last old between new le is f g h does =
-    let none : n - k ≡ 0 = omega arith in
+freely_over e lim own left t whole s out mid last old between new le is f g h does =
+    let none : left ≡ 0 = omega arith in
     let P : ℕ → Type 0 = λ l. EndsAs e (freely l 0 (Some t) s) mid last between new in
     ends_then e whole (freely lim 0 (Some t) s) out mid last old between new f g
-    (left_as whole (freely lim (n - k) (Some t) s) (freely lim 0 (Some t) s) out mid (ap (λ (m : ℕ). freely lim m (Some t) s) none) h)
+    (left_as whole (freely lim left (Some t) s) (freely lim 0 (Some t) s) out mid (ap (λ (m : ℕ). freely lim m (Some t) s) none) h)
     (subst P is does)
+
+-- ---- by the answer of a turn
+
+abbrev Follows : Turned → List Event → Course → Course → Course → Type 0
+Follows answer events same others whole = whole ≡ followed answer events same others
+
+pub goes_on : (whole rest : Course) (events : List Event) (out later : Option (List ℕ)) → whole ≡ before events rest → Grew out later (report_of events) → IsLeft whole rest out later
+goes_on c rest events out later is grew = record { events = events; whole' = is; grew = grew }
+
+pub is_over : (whole : Course) (answer : Turned) (events : List Event) (out later : Option (List ℕ)) → whole ≡ ends events answer → Grew out later (report_of events)
+    → (whole.answer ≡ answer) × Grew out later (report_of whole.events)
+is_over c answer events out later is grew = (
+  ap (λ (x : Course). x.answer) is,
+  subst (λ (x : Course). Grew out later (report_of x.events)) (sym is) grew,
+)
+
+pub part_told : (answer : Turned) (events : List Event) (whole a b : Course) (out later : Option (List ℕ)) → whole ≡ followed answer events a b → GrewByPart out later (report_of events)
+    → GrewByPart out later (report_of whole.events)
+part_told answer events c a b out later is h =
+    let more = begins_with answer events a b in
+    subst (λ (es : List Event). GrewByPart out later (report_of es)) (sym (ap (λ (x : Course). x.events) is ∙ more.1)) (part_of_first out later events more.0 h)
+
+pub puts_failed : (out later : Option (List ℕ)) (text : List ℕ) (old new : ℕ) (e : SinkErr) → e ≡ sink.Failed → Puts out later text old new (Err e) → Rose old new × GrewByPart out later text
+puts_failed out later text old new e is h = subst (λ (x : SinkErr). Puts out later text old new (Err x)) is h
+
+pub puts_memory : (out later : Option (List ℕ)) (text : List ℕ) (old new : ℕ) (e : SinkErr) → e ≡ sink.Memory → Puts out later text old new (Err e) → GrewByPart out later text
+puts_memory out later text old new e is h = subst (λ (x : SinkErr). Puts out later text old new (Err x)) is h
+
+-- memory is wanted before any line is put
+pub nothing_put : (whole : Course) (out : Option (List ℕ)) → GrewByPart out out (report_of whole.events)
+nothing_put whole out = grew_no_part out out (report_of whole.events) refl
 
 -- ---- what follows the schedule
 

@@ -19,6 +19,7 @@ use Rattle.run_model.specs.Instructions.{Obeyed}
 use Rattle.run_model.specs.State.{State, lives, thread_at}
 use Rattle.run_model.specs.Turns.{Taken, finished, gone_as, left_by, turn_of, turned_at, with_calls}
 use Rattle.run_turn.specs.declared.settling.Settled.{Settled}
+use Rattle.run_turn.specs.parts.QuietTurns.{quiet}
 use Rattle.run_turn.specs.parts.Remainder.{IsAt, Left, state_with}
 use Rattle.run_turn.specs.parts.StopLaws.{StopsKeep}
 use Rattle.placed_code.specs.parts.PlacedLaws.{ConsistentArePlaced}
@@ -145,6 +146,18 @@ turn_taken keep limit old new p maps threads mid ended steps steps_after t x (Ok
     let h = obeys one.0 one.1 in
     settled keep limit old new threads mid steps t one.0 x _ one.1 more h
     (λ th at. settles new th (record { process' = sym same_p; maps' = sym same_maps; at = at }))
+
+-- a turn of which nothing is told
+pub quiet_taken : (keep : StopsKeep) (limit : ℕ) (old new : Loaded) (p : SymbolicProcess) (maps : List (List MapEntry)) (threads mid : Threads) (steps steps_after t : ℕ) (x : Served)
+    → lives threads t ≡ true → nat_le limit steps ≡ false → p ≡ new.modules.process → maps ≡ new.modules.maps
+    → ((thread : Thread) → thread_at threads t ≡ Some thread → HasObeyed old new threads mid t thread x) → steps_after ≡ suc steps
+    → ((l : Loaded) (thread : Thread) (n : ℕ) → IsAt l p maps mid t thread → gone_as (state_with l mid n) t l thread x ≡ quiet (state_with l mid (suc n)))
+    → turn_of limit (state_with old threads steps) t ≡ quiet (state_with new mid steps_after)
+quiet_taken keep limit old new p maps threads mid steps steps_after t x live more same_p same_maps obeys one_more quiets =
+    let one = one_lives (thread_at threads t) live in
+    rw one_more
+    (settled keep limit old new threads mid steps t one.0 x (quiet (state_with new mid (suc steps))) one.1 more (obeys one.0 one.1)
+    (λ th at. quiets new th steps (record { process' = sym same_p; maps' = sym same_maps; at = at })))
 
 pub at_limit : {E : Type 0} (limit : ℕ) (l : Loaded) (threads : Threads) (steps t : ℕ) (r : Result Settled E) → lives threads t ≡ true → nat_le limit steps ≡ true
     → IfOk r (λ r. r ≡ record { answer = turned.Stopped stop.Limit; events = event.Stopped steps t stop.Limit ∷ [] })

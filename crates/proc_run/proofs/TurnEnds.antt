@@ -14,27 +14,8 @@ use Rattle.run_model.specs.State.{State, lives, some_lives, thread_at}
 use Rattle.run_model.specs.Turns.{Taken, finished, gone_as, turn_of, turned_at, turned_by, with_calls}
 use Rattle.proc_run.specs.RunningProcess.{Running}
 use Rattle.proc_run.specs.parts.Turns.{GoesOn, IsTaken, TurnAnswers, taken_by}
+pub use Rattle.proc_run.specs.parts.Turns.{IfNext, IsOwn}
 use Rattle.proc_run.proofs.LivePlaces.{within}
-
--- the turn of a thread never ends by what is outside of it
-abbrev pub IsOwn : Turned → Type 0
-IsOwn Next = Unit {0}
-IsOwn Yield = Unit {0}
-IsOwn ThreadDone = Unit {0}
-IsOwn Ended = Unit {0}
-IsOwn (Stopped why) = Unit {0}
-IsOwn other = ⊥
-
--- what holds where the thread goes on
-abbrev pub IfNext : Turned → Type 0 → Type 0
-IfNext Next P = P
-IfNext Yield P = Unit {0}
-IfNext ThreadDone P = Unit {0}
-IfNext Ended P = Unit {0}
-IfNext (Stopped why) P = Unit {0}
-IfNext StoreFault P = Unit {0}
-IfNext SinkFault P = Unit {0}
-IfNext Memory P = Unit {0}
 
 -- a turn that goes on is a step, which the limit leaves; and a thread that goes on lives
 pub record Answers (limit : ℕ) (s : State) (t : ℕ) (x : Taken) : Type 0 where

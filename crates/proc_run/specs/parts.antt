@@ -1,4 +1,5 @@
 -- What contracts inside the program say: the contract of the top call cites none of it.
+pub mod QuietRuns
 pub mod ReadyProcess
 pub mod TakenTurns
 pub mod Turns

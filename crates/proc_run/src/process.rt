@@ -10,7 +10,7 @@ ghost use Rattle.proc_run.specs.BegunProcess.{begun};
 ghost use Rattle.proc_run.specs.parts.ReadyProcess.{IsRunning};
 
 use crate::begin::{first_events, first_thread, threads_with};
-use crate::taking::take_turn;
+use crate::taking::{pass_turn, take_turn};
 use fd_base::{Memory, Sink, SinkErr, Store};
 use load_model::{LoadErr, LoadRefusal};
 use mod_load::{Loader, load_program};
@@ -56,8 +56,10 @@ impl Process {
     ghost use Rattle.run_model.specs.State.{lives, live_from};
     ghost use Rattle.run_model.specs.Turns.{turn_of};
     ghost use Rattle.run_report.specs.parts.PieceByPiece.{Puts};
+    ghost use Rattle.run_turn.specs.parts.QuietTurns.{taken_as};
     ghost use Rattle.proc_run.specs.StartAnswers.{ExplainsStart, IsStarted};
-    ghost use Rattle.proc_run.specs.parts.ReadyProcess.{IsRunning};
+    ghost use Rattle.proc_run.specs.parts.QuietRuns.{HasPassed};
+    ghost use Rattle.proc_run.specs.parts.ReadyProcess.{IsReady, IsRunning};
     ghost use Rattle.proc_run.specs.parts.Turns.{GoesOn, PutsTurn, TurnAnswers, with_lines};
 
     /// Loads the program of a job, with every slot bound, and begins its process. That it has an entry point is tested
@@ -159,6 +161,48 @@ impl Process {
             self.limit,
             thread,
         )
+    }
+
+    /// Takes a turn of a process that runs. None where it goes on and nothing is to be told of it.
+    fn pass(&mut self, thread: u32) -> Result<Option<Settled>, Memory>
+        requires running { IsRunning self.old }
+        requires lives { lives self.old.state.threads thread ≡ true }
+        ensures taken { IfOk result (λ r. turn_of self.old.limit self.old.state thread ≡ taken_as r self.new.state) }
+        ensures rest { OnOk result (self.new ≡ record self.old { state = self.new.state }) }
+        ensures running { OnOk result (IsRunning self.new) }
+    {
+        pass_turn(
+            self.alloc,
+            &mut self.loader,
+            self.threads.as_mut_slice(),
+            &mut self.steps,
+            self.limit,
+            thread,
+        )
+    }
+
+    /// Takes turns of a thread, as many as are left at most, until there is something to be told. Its events then have no
+    /// line yet.
+    pub(crate) fn pass_quietly(&mut self, thread: u32, left: &mut u32) -> Result<Turned, Memory>
+        requires ready { IsReady self.old.limit self.old }
+        requires lives { lives self.old.state.threads thread ≡ true }
+        requires some { 0 < left.old }
+        ensures passed { IfOk result (λ answer. HasPassed self.old.limit thread self.old.state left.old self.new.state left.new answer self.new.pending) }
+        ensures running { OnOk result (IsRunning self.new) }
+        ensures limit { OnOk result (self.new.limit ≡ self.old.limit) }
+    {
+        while *left > 0 {
+            *left -= 1;
+            let passed = self.pass(thread)?;
+            match passed {
+                None => {}
+                Some(settled) => {
+                    self.pending = settled.events;
+                    return Ok(settled.answer);
+                }
+            }
+        }
+        Ok(Turned::Next)
     }
 
     /// Takes a turn and puts its lines, behind those of the events that have none.

@@ -1,4 +1,5 @@
 pub mod CallsInTurn
 mod EmptiedPlaces
 pub mod MappedBytes
+pub mod QuietSteps
 pub mod StopsKeep

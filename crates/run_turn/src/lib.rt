@@ -8,6 +8,7 @@ mod calls;
 mod instruction;
 mod laws;
 mod placed;
+mod quiet;
 mod service;
 mod settling;
 
@@ -16,5 +17,6 @@ pub use calls::{Events, follow};
 pub use instruction::obey;
 pub use laws::stops_keep;
 pub use placed::{PlacedModules, Step};
+pub use quiet::is_quiet;
 pub use service::serve;
 pub use settling::{Settled, settle, stopped};

@@ -56,3 +56,23 @@ GoesOn (Stopped why) P = Unit {0}
 GoesOn StoreFault P = Unit {0}
 GoesOn SinkFault P = Unit {0}
 GoesOn Memory P = Unit {0}
+
+-- the turn of a thread never ends by what is outside of it
+abbrev pub IsOwn : Turned → Type 0
+IsOwn Next = Unit {0}
+IsOwn Yield = Unit {0}
+IsOwn ThreadDone = Unit {0}
+IsOwn Ended = Unit {0}
+IsOwn (Stopped why) = Unit {0}
+IsOwn other = ⊥
+
+-- what holds where the thread goes on
+abbrev pub IfNext : Turned → Type 0 → Type 0
+IfNext Next P = P
+IfNext Yield P = Unit {0}
+IfNext ThreadDone P = Unit {0}
+IfNext Ended P = Unit {0}
+IfNext (Stopped why) P = Unit {0}
+IfNext StoreFault P = Unit {0}
+IfNext SinkFault P = Unit {0}
+IfNext Memory P = Unit {0}

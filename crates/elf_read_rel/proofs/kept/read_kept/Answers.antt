@@ -1,11 +1,9 @@
-use Rattle.std.proofs.Common.{◌≡◌, ◌∙◌, ap, arith, map}
-use Rattle.std.specs.List.{range_with_len}
+use Rattle.std.proofs.Common.{◌≡◌, arith}
 use Rattle.std.proofs.lemmas.Result.{err_from_is_err_and}
 use Rattle.elf_model.specs.Header.{e_shnum}
 use Rattle.elf_model.specs.RelSections.{section_tests, all_section_tests}
 use Rattle.elf_model.proofs.Tests.{below_none, below_more}
 use Rattle.elf_read.proofs.Loops.{below_stops}
-use Rattle.elf_read_rel.specs.parts.Kept.{number_of}
 use Rattle.elf_read_rel.proofs.kept.read_kept.Goals as goal
 
 pub loop-i-init : goal.loop-i-init

@@ -1,7 +1,6 @@
 use Rattle.std.proofs.Common.{◌≡◌, ℕ, List, ◌+◌, ◌-◌, ◌*◌, ◌<◌, None, refl, ap, sym, ◌∙◌, arith}
 use Rattle.std.proofs.lemmas.Bool.{ne_eqb}
 use Rattle.std.proofs.lemmas.Result.{err_from_is_err_and}
-use Rattle.elf_model.specs.declared.table.SymbolEntry.{SymbolEntry}
 use Rattle.elf_model.specs.Test.{ElfTest, first_failing, each_below}
 use Rattle.elf_model.specs.Symbols.{symbol_entry, symbol_entry_of}
 use Rattle.elf_model.specs.RelSymbols as spec

@@ -1,4 +1,4 @@
-use Rattle.std.proofs.Common.{arith, ap, sym, ◌∙◌}
+use Rattle.std.proofs.Common.{arith, ap}
 use Rattle.elf_read_rel.proofs.Numbered.{count_of}
 use Rattle.elf_read_rel.proofs.symbols.symbols_offset.Goals as goal
 
