@@ -1,5 +1,5 @@
 #!/bin/sh
-# How many steps a second the machine takes, on a loop of loads, stores, sums, a multiplication and a branch. The
+# How many steps a second the machine takes over words that are kept decoded, on a loop of loads, stores, sums, a multiplication and a branch. The
 # program stands in a folder of its own for the time of the run, beside copies of the crates that it uses, and is not
 # part of the gate.
 #
@@ -32,7 +32,7 @@ cat > "$bench/src/main.rt" <<END
 ghost use Rattle.std.specs.Prelude.{◌≡◌, ◌+◌, ◌≤◌, ℕ, Some, None, IfOk, length};
 ghost use Rattle.guest_mem.specs.Memory.{HaveKind, kind_at};
 
-use a32_machine::{Cpu, StepEnd, step};
+use a32_machine::{Cpu, DecodedWords, StepEnd, step_decoded};
 use fd_base::Memory;
 use guest_mem::{Guest, MemKind};
 use std::alloc::Global;
@@ -96,13 +96,16 @@ impl Board {
         }
     }
 
-    fn step(&mut self, cpu: &mut Cpu) -> StepEnd {
-        step(cpu, &mut self.guest)
+    fn step(&mut self, words: &mut DecodedWords, cpu: &mut Cpu) -> StepEnd {
+        step_decoded(words, cpu, &mut self.guest)
     }
 }
 
 fn main(rt: HostRuntime) -> io::Result<()> {
     let Ok(mut board) = Board::new(rt.alloc()) else {
+        return println!(rt; "no memory");
+    };
+    let Ok(mut words) = DecodedWords::new(rt.alloc()) else {
         return println!(rt; "no memory");
     };
     let mut addr = 0x1000u32;
@@ -121,7 +124,7 @@ fn main(rt: HostRuntime) -> io::Result<()> {
     cpu.r[15] = 0x1000;
     let begin = rt.thread_cpu_time()?;
     for _ in 0..STEPS {
-        if !matches!(board.step(&mut cpu), StepEnd::Next) {
+        if !matches!(board.step(&mut words, &mut cpu), StepEnd::Next) {
             return println!(rt; "the loop stopped");
         }
     }

@@ -21,9 +21,9 @@ BEGIN, END = "<!-- made by tools/trust.py --write -->\n", "<!-- end -->\n"
 AHEAD = {
     f"crates/{it}.antt"
     for it in (
-        "elf_model/specs/Hashed", "elf_model/specs/RelEntries", "elf_model/specs/RelSections", "elf_model/specs/RelSymbols",
-        "elf_model/specs/Relocatable", "elf_model/specs/RelSound", "arm_relocs/specs/Branch", "a32_isa/specs/Table", "rofixup/specs/Fixups",
-        "plt_code/specs/Table",
+        "elf_model/specs/Hashed", "elf_model/specs/RelSound", "arm_relocs/specs/Branch", "a32_isa/specs/Table", "rofixup/specs/Fixups",
+        "plt_code/specs/Table", "elf_write/specs/RelFile", "elf_write/specs/Strings", "elf_write/specs/Words",
+        "elf_write/specs/WritableRel", "elf_write/specs/Writes", "write_laws/specs/ReadBack",
     )
 }
 IMPORT = re.compile(r"\buse Rattle\.(\w+)\.specs\.([\w.]+?)(?:\.\{([^}]*)\})?(?: as \w+)?;?\s*$", re.M)

@@ -4,5 +4,6 @@ pub mod Values
 pub mod Stages
 pub mod Framing
 pub mod Fitting
+pub mod Stepping
 pub mod Depending
 pub mod Arrivals

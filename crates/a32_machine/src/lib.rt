@@ -6,6 +6,7 @@ mod branch;
 mod condition;
 mod cpu;
 mod data;
+mod decoded;
 mod landing;
 mod laws;
 mod machine;
@@ -16,5 +17,6 @@ mod shifter;
 mod transfer;
 
 pub use cpu::{Cpu, StepEnd, StepStop};
+pub use decoded::DecodedWords;
 pub use laws::{depends_on, entry_arrives, fits, frames, lazy_place_arrives};
-pub use machine::step;
+pub use machine::{step, step_decoded};

@@ -1,10 +1,10 @@
 //! One step: fetched, decoded and obeyed.
 
-ghost use Rattle.std.specs.Prelude.{◌≡◌, ◌%◌, IsTrue};
+ghost use Rattle.std.specs.Prelude.{◌≡◌, ◌%◌, Some, IsTrue};
 ghost use Rattle.guest_mem.specs.parts.Kept.{Keeps};
 ghost use Rattle.a32_isa.specs.Fields.{Fit};
 ghost use Rattle.a32_isa.specs.Allowed.{is_allowed};
-ghost use Rattle.a32_isa.specs.Table.{op_fields};
+ghost use Rattle.a32_isa.specs.Table.{IsInstruction, op_fields};
 ghost use Rattle.a32_machine.specs.declared.cpu.StepEnd.TheVariants.{Stop};
 ghost use Rattle.a32_machine.specs.declared.cpu.StepStop.{StepStop};
 ghost use Rattle.a32_machine.specs.Registers.{pc_of};
@@ -14,12 +14,13 @@ use crate::branch::{branch, jump};
 use crate::condition::holds;
 use crate::cpu::{Cpu, StepEnd, StepStop};
 use crate::data::{count_zeros, move_top, move_wide, process_data};
+use crate::decoded::DecodedWords;
 use crate::landing::stop_of;
 use crate::multiple::{MultipleTransfer, registers_of, transfer_all};
 use crate::multiply::{LongMultiplication, multiply, multiply_add, multiply_long};
 use crate::registers::{move_on, reg, whole};
 use crate::transfer::{SingleTransfer, Size, half_offset, mem_offset, moved_by, transfer};
-use a32_isa::{Op, decode};
+use a32_isa::{Instr, Op, decode, round_trips};
 use guest_mem::Guest;
 
 /// Obeys an instruction whose condition holds.
@@ -131,6 +132,19 @@ fn execute(op: &Op, cpu: &mut Cpu, guest: &mut Guest) -> StepEnd
     }
 }
 
+/// Obeys an instruction, if its condition holds.
+#[inline]
+fn obey(i: &Instr, word: u32, cpu: &mut Cpu, guest: &mut Guest) -> StepEnd
+    requires row { IsInstruction word i.now }
+    ensures { record { end_ = result; cpu = cpu.new; memory = guest.new } ≡ spec.obeyed cpu.old guest.old word (Some i.now) }
+{
+    if !holds(i.cond, cpu) {
+        move_on(cpu);
+        return StepEnd::Next;
+    }
+    execute(&i.op, cpu, guest)
+}
+
 #[tactic(auto, unfolding(crate::specs::Step::step_of))]
 fn stepped(cpu: &mut Cpu, guest: &mut Guest) -> StepEnd
     ensures { record { end_ = result; cpu = cpu.new; memory = guest.new } ≡ spec.step_of cpu.old guest.old }
@@ -139,14 +153,26 @@ fn stepped(cpu: &mut Cpu, guest: &mut Guest) -> StepEnd
         Ok(word) => word,
         Err(refusal) => return stop_of(refusal),
     };
-    let Some(i) = decode(word) else {
-        return StepEnd::Stop(StepStop::Undefined(word));
-    };
-    if !holds(i.cond, cpu) {
-        move_on(cpu);
-        return StepEnd::Next;
+    match decode(word) {
+        Some(i) => obey(&i, word, cpu, guest),
+        None => StepEnd::Stop(StepStop::Undefined(word)),
     }
-    execute(&i.op, cpu, guest)
+}
+
+#[inline(always)]
+#[tactic(auto, unfolding(crate::specs::Step::step_of))]
+fn stepped_decoded(words: &mut DecodedWords, cpu: &mut Cpu, guest: &mut Guest) -> StepEnd
+    ensures { record { end_ = result; cpu = cpu.new; memory = guest.new } ≡ spec.step_of cpu.old guest.old }
+{
+    let word = match guest.fetch(cpu.r[15]) {
+        Ok(word) => word,
+        Err(refusal) => return stop_of(refusal),
+    };
+    round_trips();
+    match words.instruction(cpu.r[15], word) {
+        Some(i) => obey(i, word, cpu, guest),
+        None => StepEnd::Stop(StepStop::Undefined(word)),
+    }
 }
 
 /// Obeys the instruction at `r[15]`. It takes no memory and copies none.
@@ -161,4 +187,17 @@ pub fn step(cpu: &mut Cpu, guest: &mut Guest) -> StepEnd
     guest.whole();
     whole(cpu);
     stepped(cpu, guest)
+}
+
+/// The same with words that have been decoded: one that is among them isn't decoded again.
+#[inline]
+pub fn step_decoded(words: &mut DecodedWords, cpu: &mut Cpu, guest: &mut Guest) -> StepEnd
+    ensures step { record { end_ = result; cpu = cpu.new; memory = guest.new } ≡ spec.step_of cpu.old guest.old }
+    ensures keeps { Keeps guest.old guest.new }
+    ensures stops { (stop : StepStop) → result ≡ Stop stop → (cpu.new ≡ cpu.old) × (guest.new ≡ guest.old) }
+    ensures aligned { pc_of cpu.old % 4 ≡ 0 → pc_of cpu.new % 4 ≡ 0 }
+{
+    guest.whole();
+    whole(cpu);
+    stepped_decoded(words, cpu, guest)
 }

@@ -3,7 +3,6 @@ use Rattle.std.proofs.Common.{◌≡◌, ℕ, ◌^◌, ◌<◌, ◌≤◌, ◌�
 use Rattle.std.specs.FinMap.{get}
 use Rattle.fd_base.specs.Fetched.{Files}
 use Rattle.fd_base.specs.Lines.{lines_of}
-use Rattle.elf_model.specs.declared.object.Object.{Object}
 use Rattle.load_model.specs.declared.error.LoadRefusal.{LoadRefusal}
 use Rattle.load_model.specs.declared.plan.MemPlan.{MemPlan}
 use Rattle.load_model.specs.Plan.{Fits}
@@ -29,11 +28,11 @@ use Rattle.fdpic_cmd.specs.Bind.{plan_of, refusal_of}
 use Rattle.fdpic_cmd.specs.Files.{IsFile, OnFile, OnFound}
 use Rattle.fdpic_cmd.specs.Code.{code_listing}
 use Rattle.fdpic_cmd.specs.Jobs.{IsJobFile, JobMeans, OnJob, OnNoJob}
-use Rattle.fdpic_cmd.specs.Listing.{object_listing}
+use Rattle.elf_listing.specs.Shown.{listing_of}
 use Rattle.fdpic_cmd.specs.Outcome.{Outcome, refuses, writes}
 use Rattle.fdpic_cmd.specs.Program.{ProgramMeans}
 use Rattle.fdpic_cmd.specs.Run.{IsStatusOf, JobRunMeans}
-use Rattle.fdpic_cmd.specs.Show.{ListMeans, listed}
+use Rattle.fdpic_cmd.specs.Show.{CodeMeans, ShowMeans, listed, shown_as}
 use Rattle.fdpic_cmd.specs.Slots.{slot_listing}
 use Rattle.fdpic_cmd.specs.parts.Outcomes.{CommandsComeTo}
 
@@ -53,8 +52,12 @@ module _ (told : Files) (name : List ℕ) (means : List ℕ → Outcome → Type
   on_file : (o : Outcome) × OnFile told name means o
   on_file = by_file (get told name) refl
 
-list_comes_to : (listing : Object → List ℕ) (told : Files) (name : List ℕ) → (o : Outcome) × ListMeans listing name told o
-list_comes_to listing told name = on_file told name (λ bytes o. o ≡ listed listing name bytes) (λ bytes file. (listed listing name bytes, refl))
+code_comes_to : (told : Files) (name : List ℕ) → (o : Outcome) × CodeMeans name told o
+code_comes_to told name = on_file told name (λ bytes o. o ≡ listed code_listing name bytes) (λ bytes file. (listed code_listing name bytes, refl))
+
+show_comes_to : (told : Files) (name : List ℕ) → (o : Outcome) × ShowMeans name told o
+show_comes_to told name =
+    on_file told name (λ bytes o. o ≡ shown_as name (listing_of bytes)) (λ bytes file. (shown_as name (listing_of bytes), refl))
 
 -- ---- a program
 
@@ -116,7 +119,7 @@ commands_come_to_lem (Bind file text data') told =
 commands_come_to_lem (BindJob file) told =
     job_comes_to told file (λ job o. ProgramMeans job.plan job.program Load told o)
     (λ job is. let fits = job_load told file job is in program_comes_to job.plan job.program Load told (loads_come_to_lem.programs job.plan told job.program fits.0 fits.1))
-commands_come_to_lem (Code file) told = list_comes_to code_listing told file
+commands_come_to_lem (Code file) told = code_comes_to told file
 commands_come_to_lem (Run file) told =
     job_comes_to told file (JobRunMeans told) (λ job is. let fits = job_load told file job is in run_comes_to told job fits.0 fits.1)
-commands_come_to_lem (Show file) told = list_comes_to object_listing told file
+commands_come_to_lem (Show file) told = show_comes_to told file

@@ -8,6 +8,7 @@ pub mod JobFiles
 pub mod JournalCalls
 pub mod OpenedObjects
 pub mod OutcomesAgree
+pub mod ShownFiles
 pub mod SlotListings
 pub mod RunCommand
 pub mod SlotLines

@@ -23,12 +23,11 @@ use Rattle.fdpic_cmd.specs.Slots.{slot_listing}
 use Rattle.fdpic_cmd.specs.declared.status.Status.{Status}
 use Rattle.fdpic_cmd.specs.declared.status.Refusal.{Refusal}
 use Rattle.fdpic_cmd.specs.declared.status.Refusal.TheVariants.{TooLong, Job as NoJob, Load}
-use Rattle.elf_model.specs.declared.object.Object.{Object}
 use Rattle.std.specs.FinMap.{get}
 use Rattle.fdpic_cmd.specs.Files.{OnFound}
-use Rattle.fdpic_cmd.specs.Listing.{object_listing}
+use Rattle.elf_listing.specs.Shown.{listing_of}
 use Rattle.fdpic_cmd.specs.Code.{code_listing}
-use Rattle.fdpic_cmd.specs.Show.{ListMeans, listed}
+use Rattle.fdpic_cmd.specs.Show.{CodeMeans, ShowMeans, listed, shown_as}
 use Rattle.fdpic_cmd.specs.Meaning.{Means}
 
 -- one status and one text
@@ -62,10 +61,13 @@ agree_found name means agree (Some bytes) a b p q =
     ] p q
 
 -- a file has one listing, or one refusal
-list_agrees : (listing : Object → List ℕ) (file : List ℕ) (told : Files) (a b : Outcome) → ListMeans listing file told a
-    → ListMeans listing file told b → Agree a b
-list_agrees listing file told a b p q =
-    agree_found file (λ bytes o. o ≡ listed listing file bytes) (λ bytes a b p q. agree_same a b (listed listing file bytes) p q) (get told file) a b p q
+code_agrees : (file : List ℕ) (told : Files) (a b : Outcome) → CodeMeans file told a → CodeMeans file told b → Agree a b
+code_agrees file told a b p q =
+    agree_found file (λ bytes o. o ≡ listed code_listing file bytes) (λ bytes a b p q. agree_same a b (listed code_listing file bytes) p q) (get told file) a b p q
+
+show_agrees : (file : List ℕ) (told : Files) (a b : Outcome) → ShowMeans file told a → ShowMeans file told b → Agree a b
+show_agrees file told a b p q =
+    agree_found file (λ bytes o. o ≡ shown_as file (listing_of bytes)) (λ bytes a b p q. agree_same a b (shown_as file (listing_of bytes)) p q) (get told file) a b p q
 
 -- a text is one job, or is refused in one way
 text_agrees : (means : Job → Outcome → Type 0) → ((job : Job) (a b : Outcome) → means job a → means job b → Agree a b) → (bytes : List ℕ) (a b : Outcome)
@@ -114,6 +116,6 @@ pub agrees : (command : Command) (told : Files) (a b : Outcome) → Means comman
 agrees (Bind file text data') told a b p q = program_agrees (plan_of file text data') file (refusal_of file) told a b p q
 agrees (BindJob file) told a b p q =
     in_file (λ job o. ProgramMeans job.plan job.program Load told o) (λ job a b p q. program_agrees job.plan job.program Load told a b p q) file told a b p q
-agrees (Code file) told a b p q = list_agrees code_listing file told a b p q
+agrees (Code file) told a b p q = code_agrees file told a b p q
 agrees (Run file) told a b p q = in_file (JobRunMeans told) (run_agrees told) file told a b p q
-agrees (Show file) told a b p q = list_agrees object_listing file told a b p q
+agrees (Show file) told a b p q = show_agrees file told a b p q

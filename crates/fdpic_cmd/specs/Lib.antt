@@ -7,7 +7,6 @@ pub mod Files
 pub mod Forms
 pub mod Jobs
 pub mod Lines
-pub mod Listing
 pub mod Meaning
 pub mod Outcome
 pub mod Program

@@ -1,18 +1,16 @@
--- show F and code F: a listing of the object that a file is.
+-- show F and code F: a listing of the relocatable file or the object that a file is.
 use Rattle.std.specs.Prelude.{◌≡◌, ℕ, List, Option, Some, None, Result, Ok, Err, IfSome}
 use Rattle.fd_base.specs.Fetched.{Files}
 use Rattle.elf_model.specs.declared.object.Object.{Object}
 use Rattle.elf_model.specs.declared.refusal.ElfRefusal.{ElfRefusal}
 use Rattle.elf_model.specs.Object.{refusal_of, object_of, IsObject}
-use Rattle.fdpic_cmd.specs.declared.show.ObjectText.{ObjectText}
-use Rattle.fdpic_cmd.specs.declared.show.ObjectText.TheVariants.{Listing, Code}
 use Rattle.fdpic_cmd.specs.declared.status.Refusal.TheVariants.{Elf}
 use Rattle.fd_base.specs.Faults.{Rose}
 use Rattle.fdpic_cmd.specs.declared.status.Failure.{Failure}
 use Rattle.fdpic_cmd.specs.declared.status.Failure.TheVariants.{Refused, StoreFault, Memory}
 use Rattle.fdpic_cmd.specs.Outcome.{Outcome, writes, refuses}
 use Rattle.fdpic_cmd.specs.Files.{OnFile, IsFile}
-use Rattle.fdpic_cmd.specs.Listing.{object_listing}
+use Rattle.elf_listing.specs.Shown.{listing_of}
 use Rattle.fdpic_cmd.specs.Code.{code_listing}
 
 -- the listing of the object that the bytes are, or the refusal of the file
@@ -27,14 +25,16 @@ listed listing name bytes = listed_unless (refusal_of bytes) listing name bytes
 abbrev pub ListMeans : (Object → List ℕ) → List ℕ → Files → Outcome → Type 0
 ListMeans listing name told o = OnFile told name (λ bytes o. o ≡ listed listing name bytes) o
 
--- the text of an object that is asked for
-abbrev pub text_of : ObjectText → Object → List ℕ
-text_of Listing = object_listing
-text_of Code = code_listing
+-- the listing of a file's bytes, or the refusal of the file
+abbrev pub shown_as : List ℕ → Result (List ℕ) ElfRefusal → Outcome
+shown_as name (Ok text) = writes text
+shown_as name (Err r) = refuses (Elf name r)
 
+-- show F: by its type a file is read as a relocatable file or as an object
 abbrev pub ShowMeans : List ℕ → Files → Outcome → Type 0
-ShowMeans name = ListMeans object_listing name
+ShowMeans name told o = OnFile told name (λ bytes o. o ≡ shown_as name (listing_of bytes)) o
 
+-- code F
 abbrev pub CodeMeans : List ℕ → Files → Outcome → Type 0
 CodeMeans name = ListMeans code_listing name
 

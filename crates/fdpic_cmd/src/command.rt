@@ -20,7 +20,7 @@ pub enum Command {
     Code { file: Name },
     /// `run JOB`: loads the program of the job in this file and runs it, and prints the report of the run.
     Run { job: Name },
-    /// `show F`: prints what the object in file F holds.
+    /// `show F`: prints what the relocatable file or the object in file F holds.
     Show { file: Name },
 }
 

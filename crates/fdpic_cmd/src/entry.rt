@@ -18,7 +18,7 @@ use crate::command::{Command, command_of};
 use crate::job::bind_job;
 use crate::line::line;
 use crate::run::run_job;
-use crate::show::{ObjectText, list};
+use crate::show::{code, show};
 use crate::status::{Failure, Status, failed};
 use fd_base::{Bytes, Sink, SinkErr, Store};
 use std::alloc::Global;
@@ -74,12 +74,12 @@ fn perform<S: Store, O: Sink>(
             say(out, text)
         }
         Command::Code { file } => {
-            let text = list(alloc, store, file, ObjectText::Code);
+            let text = code(alloc, store, file);
             say(out, text)
         }
         Command::Run { job } => run_job(alloc, store, job, out),
         Command::Show { file } => {
-            let text = list(alloc, store, file, ObjectText::Listing);
+            let text = show(alloc, store, file);
             say(out, text)
         }
     }

@@ -10,7 +10,6 @@ mod files;
 mod job;
 mod laws;
 mod line;
-mod listing;
 mod program;
 mod run;
 mod show;

@@ -1,51 +1,42 @@
 //! `show F` and `code F`.
 
-ghost use Rattle.std.specs.Prelude.{◌≡◌, ◌≤◌, IfOk};
-ghost use Rattle.elf_model.specs.Sound.{IsSound};
+ghost use Rattle.std.specs.Prelude.{◌≡◌, ◌≤◌};
 ghost use Rattle.fdpic_cmd.specs.Ended.{Gives};
-ghost use Rattle.fdpic_cmd.specs.Show.{ListMeans, text_of};
+ghost use Rattle.fdpic_cmd.specs.Show.{CodeMeans, ShowMeans};
 
 use crate::code::code_listing;
-use crate::files::open;
-use crate::listing::object_listing;
-use crate::status::Failure;
-use elf_model::Object;
-use fd_base::{Bytes, Memory, Name, Store};
+use crate::files::{fetched, open};
+use crate::status::{Failure, Refusal};
+use elf_listing::listing_of;
+use elf_read::ReadErr;
+use fd_base::{Bytes, Name, Store};
 use std::alloc::Global;
 
-/// Which text of an object is asked for.
-#[derive(Clone, Copy)]
-pub enum ObjectText {
-    /// What it holds, for `show F`.
-    Listing,
-    /// The words of its executable segments, for `code F`.
-    Code,
-}
-
-/// The text of an object.
-fn text_of(alloc: Global, object: &Object, text: ObjectText) -> Result<Bytes, Memory>
-    requires { IsSound object.now }
-    ensures { IfOk result (λ bytes. bytes ≡ text_of text object.entry.now) }
-{
-    match text {
-        ObjectText::Listing => object_listing(alloc, object),
-        ObjectText::Code => code_listing(alloc, object),
-    }
-}
-
-/// The text of the object in a file.
-#[tactic(auto, using(crate::proofs::OpenedObjects::lists))]
-pub fn list<S: Store>(
-    alloc: Global,
-    store: &mut S,
-    file: &Name,
-    text: ObjectText,
-) -> Result<Bytes, Failure>
-    ensures answer { Gives (ListMeans (text_of text) file.now)
-        (S.files store.old) (S.faults store.old) (S.faults store.new) result }
+/// The text of `code F`: the words of the executable segments of the object in a file.
+#[tactic(auto, using(crate::proofs::OpenedObjects::code_of, crate::proofs::OpenedObjects::no_code))]
+pub fn code<S: Store>(alloc: Global, store: &mut S, file: &Name) -> Result<Bytes, Failure>
+    ensures answer { Gives (CodeMeans file.now) (S.files store.old) (S.faults store.old) (S.faults store.new) result }
     ensures files { S.files store.new ≡ S.files store.old }
     ensures count { S.faults store.old ≤ S.faults store.new }
 {
     let object = open(alloc, store, file)?;
-    Ok(text_of(alloc, &object, text)?)
+    Ok(code_listing(alloc, &object)?)
+}
+
+/// The text of `show F`: what the relocatable file or the object in a file holds.
+#[tactic(auto, using(crate::proofs::ShownFiles::shown, crate::proofs::ShownFiles::refused, crate::proofs::ShownFiles::not_there))]
+pub fn show<S: Store>(alloc: Global, store: &mut S, file: &Name) -> Result<Bytes, Failure>
+    ensures answer { Gives (ShowMeans file.now) (S.files store.old) (S.faults store.old) (S.faults store.new) result }
+    ensures files { S.files store.new ≡ S.files store.old }
+    ensures count { S.faults store.old ≤ S.faults store.new }
+{
+    let bytes = fetched(alloc, store, file)?;
+    match listing_of(alloc, bytes.as_slice()) {
+        Ok(text) => Ok(text),
+        Err(ReadErr::Refused(refusal)) => Err(Failure::Refused(Refusal::Elf(
+            file.copy(alloc)?,
+            refusal,
+        ))),
+        Err(ReadErr::Memory) => Err(Failure::Memory),
+    }
 }

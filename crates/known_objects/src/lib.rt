@@ -12,6 +12,8 @@ mod entries;
 #[cfg(test)]
 mod fixups;
 #[cfg(test)]
+mod foo;
+#[cfg(test)]
 mod maps;
 #[cfg(test)]
 mod placing;

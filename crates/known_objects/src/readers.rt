@@ -322,7 +322,11 @@ const REFUSALS: [(usize, u32, ElfKind, u32); 57] = [
 ];
 
 /// The file of these words, with the word at an offset in bytes changed.
-fn file(alloc: Global, words: &[u32], change: Option<(usize, u32)>) -> Result<Vec<u8>, AllocError> {
+pub fn file(
+    alloc: Global,
+    words: &[u32],
+    change: Option<(usize, u32)>,
+) -> Result<Vec<u8>, AllocError> {
     let mut bytes = Vec::new(alloc);
     let mut offset = 0usize;
     for word in words {
@@ -352,7 +356,7 @@ fn refusal_of(
 }
 
 /// How bytes are refused. None where they are an object, are too long for these tests, or memory is wanted.
-fn refusal(alloc: Global, bytes: &[u8]) -> Option<(ElfKind, u32)> {
+pub fn refusal(alloc: Global, bytes: &[u8]) -> Option<(ElfKind, u32)> {
     if bytes.len() > 10_000 {
         return None;
     }

@@ -1,6 +1,7 @@
 pub mod Begins
 pub mod FirstLive
 mod LivePlaces
+pub mod PassedTurns
 mod QuietRuns
 pub mod StartRefusals
 pub mod RunEnds

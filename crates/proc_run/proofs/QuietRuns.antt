@@ -1,5 +1,5 @@
 -- Runs of turns of which nothing is told.
-use Rattle.std.proofs.Common.{◌≡◌, ℕ, suc, ◌+◌, ◌-◌, ◌<◌, ◌≤◌, true, List, [], Result, Ok, Err, Option, Some, None, refl, sym, ap, subst, ◌∙◌, arith}
+use Rattle.std.proofs.Common.{◌≡◌, ℕ, zero, suc, ◌+◌, ◌-◌, ◌<◌, ◌≤◌, true, List, [], Result, Ok, Err, Option, Some, None, refl, sym, ap, subst, ◌∙◌, arith}
 use Rattle.std.specs.Prelude.{IfOk, OnOk}
 use Rattle.run_model.specs.declared.event.Event.{Event}
 use Rattle.run_model.specs.declared.thread.Turned.{Turned}
@@ -8,13 +8,13 @@ use Rattle.run_model.specs.Courses.{Course, after_turn}
 use Rattle.run_model.specs.State.{State, lives}
 use Rattle.run_model.specs.Turns.{Taken, turn_of}
 use Rattle.run_turn.specs.declared.settling.Settled.{Settled}
-use Rattle.run_turn.specs.parts.QuietTurns.{quiet, taken_as}
+use Rattle.run_turn.specs.parts.QuietTurns.{quiet}
 use Rattle.proc_run.specs.declared.end.Going.{Going}
 use Rattle.proc_run.specs.declared.end.Going.TheVariants.{Same, Others}
 use Rattle.proc_run.specs.declared.end.RunEnd.{RunEnd}
 use Rattle.proc_run.specs.RunningProcess.{Running}
 use Rattle.proc_run.specs.RunParts.{DoesPart, GoesSame, after_step}
-use Rattle.proc_run.specs.parts.QuietRuns.{AnswersAs, ArePassed, HasPassed}
+use Rattle.proc_run.specs.parts.QuietRuns.{AnswersAs, ArePassed, ArePassing, AreQuiet, HasPassed, IsPassing, Passes}
 use Rattle.proc_run.specs.parts.ReadyProcess.{IsReady, IsRunning}
 use Rattle.proc_run.specs.parts.Turns.{GoesOn, IfNext, with_lines}
 use Rattle.proc_run.proofs.TurnEnds.{Answers, answers}
@@ -75,16 +75,42 @@ module _ (limit t : ℕ) where
     goes = h.goes;
   })
 
-module _ (limit t : ℕ) (old : State) (p q : Running) (left l : ℕ) (r : Option Settled) (lt : 0 < l) (h : ArePassed limit t old left p.state l) (ready : IsReady limit p)
-    (is : turn_of p.limit p.state t ≡ taken_as r q.state) where
-  turn_is : turn_of limit p.state t ≡ taken_as r q.state
-  turn_is = ap (λ (m : ℕ). turn_of m p.state t) (sym ready.limit') ∙ is
+  -- more quiet turns
+  pub many_passed : (n : ℕ) (old mid new : State) (left l later : ℕ) → later + n ≡ l → ArePassed limit t old left mid l → AreQuiet limit t n mid new → ArePassed limit t old left new later
+  many_passed zero old mid new left l later all h quiets =
+      let same : l ≡ later = omega arith in
+      subst (λ (k : ℕ). ArePassed limit t old left new k) same (subst (λ (s : State). ArePassed limit t old left s l) (sym quiets) h)
+  many_passed (suc n) old mid new left l later all h quiets =
+      let one_less : suc later - 1 ≡ later = omega arith in
+      let before : ArePassed limit t old left quiets.0 (suc later) = many_passed n old mid quiets.0 left l (suc later) (omega arith) h quiets.1 in
+      subst (λ (k : ℕ). ArePassed limit t old left new k) one_less (one_passed old quiets.0 new left (suc later) (omega arith) before quiets.2)
 
-  pub quiet_next : r ≡ None → ArePassed limit t old left q.state (l - 1)
-  quiet_next none = one_passed limit t old p.state q.state left l lt h (turn_is ∙ ap (λ (o : Option Settled). taken_as o q.state) none)
+module _ (limit t : ℕ) (old : State) (p q : Running) (left l later : ℕ) (r : Option Settled) (h : ArePassed limit t old left p.state l) (ready : IsReady limit p)
+    (passes : Passes p.limit t r l later p.state q.state) where
+  within : Passes limit t r l later p.state q.state
+  within = subst (λ (most : ℕ). Passes most t r l later p.state q.state) ready.limit' passes
 
-  pub told_next : (answer : Turned) (events : List Event) → r ≡ Some (record { answer = answer; events = events }) → HasPassed limit t old left q.state (l - 1) answer events
-  told_next answer events some = last_passed limit t old p.state q.state left l answer events lt h (turn_is ∙ ap (λ (o : Option Settled). taken_as o q.state) some)
+  nothing_told : r ≡ None → ArePassing limit t l later p.state q.state
+  nothing_told none = subst (λ (o : Option Settled). Passes limit t o l later p.state q.state) none within
+
+  pub quiet_next : r ≡ None → ArePassed limit t old left q.state later
+  quiet_next none =
+      let k = nothing_told none in
+      many_passed limit t k.count old p.state q.state left l later k.taken h k.quiet'
+
+  pub fewer_left : r ≡ None → later < l
+  fewer_left none =
+      let k = nothing_told none in
+      omega (arith, k.taken, k.some)
+
+  pub told_next : (answer : Turned) (events : List Event) → r ≡ Some (record { answer = answer; events = events }) → HasPassed limit t old left q.state later answer events
+  told_next answer events some =
+      let k : IsPassing limit t l later p.state q.state (record { answer = answer; events = events }) =
+      subst (λ (o : Option Settled). Passes limit t o l later p.state q.state) some within in
+      let one_less : suc later - 1 ≡ later = omega arith in
+      let before : ArePassed limit t old left k.mid (suc later) = many_passed limit t k.count old p.state k.mid left l (suc later) (omega (arith, k.taken)) h k.quiet' in
+      subst (λ (n : ℕ). HasPassed limit t old left q.state n answer events) one_less
+      (last_passed limit t old k.mid q.state left (suc later) answer events (omega arith) before k.turn)
 
 -- a process stays ready by a turn that changes its state alone
 pub ready_next : (limit : ℕ) (p q : Running) → IsReady limit p → q ≡ record p { state = q.state } → IsRunning q → IsReady limit q

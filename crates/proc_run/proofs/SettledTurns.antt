@@ -29,10 +29,10 @@ use Rattle.proc_run.proofs.LivePlaces.{one_lives, within}
 
 -- ---- places that are set
 
-abbrev Threads : Type 0
+abbrev pub Threads : Type 0
 Threads = List (Option Thread)
 
-set_twice : (xs : Threads) (t : ℕ) (x y : Option Thread) → set (set xs t x) t y ≡ set xs t y
+pub set_twice : (xs : Threads) (t : ℕ) (x y : Option Thread) → set (set xs t x) t y ≡ set xs t y
 set_twice [] t x y = refl
 set_twice (z ∷ xs) zero x y = refl
 set_twice (z ∷ xs) (suc t) x y = ap (λ ys. z ∷ ys) (set_twice xs t x y)
@@ -45,7 +45,7 @@ set_none [] t x = refl
 set_none (z ∷ xs) zero x = refl
 set_none (z ∷ xs) (suc t) x = ap (λ ys. None ∷ ys) (set_none xs t x)
 
-set_back : (xs : Threads) (t : ℕ) (thread : Thread) → thread_at xs t ≡ Some thread → set xs t (Some thread) ≡ xs
+pub set_back : (xs : Threads) (t : ℕ) (thread : Thread) → thread_at xs t ≡ Some thread → set xs t (Some thread) ≡ xs
 set_back xs t thread at = subst (λ (x : Option Thread). set xs t x ≡ xs) at (set-get_or xs t None)
 
 -- ---- what follows it is told by the thread after it alone

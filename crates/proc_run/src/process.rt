@@ -10,14 +10,15 @@ ghost use Rattle.proc_run.specs.BegunProcess.{begun};
 ghost use Rattle.proc_run.specs.parts.ReadyProcess.{IsRunning};
 
 use crate::begin::{first_events, first_thread, threads_with};
-use crate::taking::{pass_turn, take_turn};
+use crate::taking::{pass_turns, take_turn};
+use a32_machine::DecodedWords;
 use fd_base::{Memory, Sink, SinkErr, Store};
 use load_model::{LoadErr, LoadRefusal};
 use mod_load::{Loader, load_program};
 use placed_code::consistent_are_placed;
 use run_model::{Job, Thread, Turned};
 use run_report::put_report;
-use run_turn::{Events, Settled};
+use run_turn::{ClearPlaces, Events, Settled};
 use std::alloc::Global;
 use std::marker::Model;
 
@@ -31,11 +32,16 @@ pub struct Process {
     limit: u32,
     /// Events that have no line yet: those before the first step.
     pending: Events,
+    /// Addresses at which no entry of the loaded modules is placed.
+    clear: ClearPlaces,
+    /// Words that have been decoded.
+    words: DecodedWords,
 }
 
 impl Model for Process {
     ghost use Rattle.std.specs.Coded.{codes};
     ghost use Rattle.func_desc.specs.Functions.{addr_map_code};
+    ghost use Rattle.run_turn.specs.parts.ClearPlaces.{AreClear};
     ghost use Rattle.proc_run.specs.RunningProcess.{Running};
 
     ghost Value = { Running };
@@ -47,6 +53,8 @@ impl Model for Process {
       limit = p.limit;
       pending = p.pending;
     } };
+
+    ghost invariant = { λ p. AreClear p.loader.loaded.modules.process p.loader.loaded.modules.maps p.clear };
 }
 
 impl Process {
@@ -56,9 +64,8 @@ impl Process {
     ghost use Rattle.run_model.specs.State.{lives, live_from};
     ghost use Rattle.run_model.specs.Turns.{turn_of};
     ghost use Rattle.run_report.specs.parts.PieceByPiece.{Puts};
-    ghost use Rattle.run_turn.specs.parts.QuietTurns.{taken_as};
     ghost use Rattle.proc_run.specs.StartAnswers.{ExplainsStart, IsStarted};
-    ghost use Rattle.proc_run.specs.parts.QuietRuns.{HasPassed};
+    ghost use Rattle.proc_run.specs.parts.QuietRuns.{HasPassed, Passes};
     ghost use Rattle.proc_run.specs.parts.ReadyProcess.{IsReady, IsRunning};
     ghost use Rattle.proc_run.specs.parts.Turns.{GoesOn, PutsTurn, TurnAnswers, with_lines};
 
@@ -155,6 +162,8 @@ impl Process {
     {
         take_turn(
             self.alloc,
+            &mut self.clear,
+            &mut self.words,
             &mut self.loader,
             self.threads.as_mut_slice(),
             &mut self.steps,
@@ -163,21 +172,26 @@ impl Process {
         )
     }
 
-    /// Takes a turn of a process that runs. None where it goes on and nothing is to be told of it.
-    fn pass(&mut self, thread: u32) -> Result<Option<Settled>, Memory>
+    /// Takes turns of a process that runs, one at least, and as many as are left at most, up to one of which something is to be
+    /// told. None where there is no such turn.
+    fn pass(&mut self, thread: u32, left: &mut u32) -> Result<Option<Settled>, Memory>
         requires running { IsRunning self.old }
         requires lives { lives self.old.state.threads thread ≡ true }
-        ensures taken { IfOk result (λ r. turn_of self.old.limit self.old.state thread ≡ taken_as r self.new.state) }
+        requires some { 0 < left.old }
+        ensures taken { IfOk result (λ r. Passes self.old.limit thread r left.old left.new self.old.state self.new.state) }
         ensures rest { OnOk result (self.new ≡ record self.old { state = self.new.state }) }
         ensures running { OnOk result (IsRunning self.new) }
     {
-        pass_turn(
+        pass_turns(
             self.alloc,
+            &mut self.clear,
+            &mut self.words,
             &mut self.loader,
             self.threads.as_mut_slice(),
             &mut self.steps,
             self.limit,
             thread,
+            left,
         )
     }
 
@@ -192,8 +206,7 @@ impl Process {
         ensures limit { OnOk result (self.new.limit ≡ self.old.limit) }
     {
         while *left > 0 {
-            *left -= 1;
-            let passed = self.pass(thread)?;
+            let passed = self.pass(thread, left)?;
             match passed {
                 None => {}
                 Some(settled) => {
@@ -244,6 +257,8 @@ fn begin(alloc: Global, job: &Job, loader: Loader, entry: u32) -> Result<Process
     let thread = first_thread(loader.process(), loader.maps(), job.plan.memory, entry);
     let pending = first_events(alloc, loader.process(), &thread)?;
     let threads = threads_with(alloc, job.plan.threads, thread)?;
+    let clear = ClearPlaces::new(alloc)?;
+    let words = DecodedWords::new(alloc)?;
     Ok(Process {
         alloc,
         loader,
@@ -251,6 +266,8 @@ fn begin(alloc: Global, job: &Job, loader: Loader, entry: u32) -> Result<Process
         steps: 0,
         limit: job.steps,
         pending,
+        clear,
+        words,
     })
 }
 

@@ -1,1 +1,2 @@
+mod CallLines
 mod ReportLines

@@ -2,4 +2,6 @@ pub mod CallsInTurn
 mod EmptiedPlaces
 pub mod MappedBytes
 pub mod QuietSteps
+pub mod QuietWalks
+pub mod ServiceSteps
 pub mod StopsKeep

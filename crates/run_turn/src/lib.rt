@@ -5,6 +5,7 @@
 mod begun;
 mod bytes;
 mod calls;
+mod clear;
 mod instruction;
 mod laws;
 mod placed;
@@ -14,9 +15,10 @@ mod settling;
 
 pub use begun::call_begun;
 pub use calls::{Events, follow};
+pub use clear::ClearPlaces;
 pub use instruction::obey;
 pub use laws::stops_keep;
 pub use placed::{PlacedModules, Step};
-pub use quiet::is_quiet;
+pub use quiet::{Passed, is_quiet, obey_on};
 pub use service::serve;
 pub use settling::{Settled, settle, stopped};

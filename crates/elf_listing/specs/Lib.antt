@@ -1,0 +1,4 @@
+pub mod Listing
+pub mod RelListing
+pub mod Shown
+pub mod parts

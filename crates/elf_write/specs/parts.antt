@@ -1,0 +1,2 @@
+-- What contracts inside the program say: the contracts of the writers cite none of it.
+pub mod Sizes

@@ -1,7 +1,0 @@
-use Rattle.std.proofs.Common.{◌≡◌, ◌++◌, drop}
-use Rattle.fdpic_cmd.specs.Listing.{fixup_line}
-use Rattle.fd_base.specs.Fields.{numbered}
-use Rattle.fdpic_cmd.proofs.listing.put_fixups.Given as goal
-
-abbrev pub invariant-loop-i : goal.invariant-loop-i
-invariant-loop-i l = l.out ++ numbered fixup_line l.i (drop l.i l.sites) ≡ l.fn.out ++ numbered fixup_line 0 l.sites

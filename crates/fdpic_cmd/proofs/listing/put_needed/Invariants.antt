@@ -1,7 +1,0 @@
-use Rattle.std.proofs.Common.{◌≡◌, ◌++◌, drop}
-use Rattle.std.specs.List.{flat_map}
-use Rattle.fdpic_cmd.specs.Listing.{needed_line}
-use Rattle.fdpic_cmd.proofs.listing.put_needed.Given as goal
-
-abbrev pub invariant-loop-name : goal.invariant-loop-name
-invariant-loop-name l = l.out ++ flat_map needed_line (drop l.name-index l.names) ≡ l.fn.out ++ flat_map needed_line l.names

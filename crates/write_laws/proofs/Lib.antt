@@ -1,0 +1,13 @@
+pub mod Holding
+pub mod Listing
+pub mod Naming
+pub mod Headers
+pub mod Parts
+pub mod Kept
+pub mod Tables
+pub mod Symbols
+pub mod Listed
+pub mod SectionTests
+pub mod SymbolTable
+pub mod EntryTests
+pub mod Law
