@@ -24,6 +24,8 @@ AHEAD = {
         "elf_model/specs/Hashed", "elf_model/specs/RelSound", "arm_relocs/specs/Branch", "a32_isa/specs/Table", "rofixup/specs/Fixups",
         "plt_code/specs/Table", "elf_write/specs/RelFile", "elf_write/specs/Strings", "elf_write/specs/Words",
         "elf_write/specs/WritableRel", "elf_write/specs/Writes", "write_laws/specs/ReadBack",
+        "a32_text/specs/Token", "a32_text/specs/Word", "a32_text/specs/Taking", "a32_text/specs/Arg", "a32_text/specs/Address",
+        "a32_text/specs/List", "a32_text/specs/Operands", "a32_text/specs/Statement", "a32_text/specs/Printed", "a32_text/specs/Shown",
     )
 }
 IMPORT = re.compile(r"\buse Rattle\.(\w+)\.specs\.([\w.]+?)(?:\.\{([^}]*)\})?(?: as \w+)?;?\s*$", re.M)

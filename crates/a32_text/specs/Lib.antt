@@ -1,0 +1,10 @@
+pub mod Token
+pub mod Shown
+pub mod Word
+pub mod Taking
+pub mod Arg
+pub mod Address
+pub mod List
+pub mod Operands
+pub mod Statement
+pub mod Printed
