@@ -40,7 +40,8 @@ KINDS = {"PROGBITS": 1, "NOTE": 7, "NOBITS": 8, "INIT_ARRAY": 14, "FINI_ARRAY": 
 FLAGS = {"W": 1, "A": 2, "X": 4, "M": 16, "S": 32, "I": 64, "L": 128, "O": 256, "G": 512, "T": 1024}
 PLACES = {"UND": "undef", "ABS": "abs", "COM": "common"}
 SECTION = re.compile(r" *\[ *(\d+)\] (\S*) +(\S+) +[0-9a-f]{8} ([0-9a-f]{6}) ([0-9a-f]{6}) [0-9a-f]{2} +([A-Za-z]*) +\d+ +(\d+) +(\d+)$")
-RELOCATIONS = re.compile(r"Relocation section '.*' at offset 0x([0-9a-f]+) contains")
+# a section without a name is 0
+RELOCATIONS = re.compile(r"Relocation section (?:'.*'|0) at offset 0x([0-9a-f]+) contains")
 RELOCATION = re.compile(r"([0-9a-f]{8})  ([0-9a-f]{8}) ")
 SYMBOL = re.compile(r" *(\d+): ([0-9a-f]{8}) +(\S+) (\S+) +(\S+) +(\S+) +(\S+) ?(\S*)$")
 

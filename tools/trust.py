@@ -17,15 +17,20 @@ ROOT = os.path.dirname(os.path.dirname(os.path.abspath(__file__)))
 TOP = "crates/fdpic_cmd/src/entry.rt"
 PAGE = "docs/TRUST.md"
 BEGIN, END = "<!-- made by tools/trust.py --write -->\n", "<!-- end -->\n"
-# Definitions that what is to be built next (the assembler, the linker and the writers) will reach: they lie with the others.
+# Definitions that what is to be built next (the linker and the writers) will reach: they lie with the others.
 AHEAD = {
     f"crates/{it}.antt"
     for it in (
-        "elf_model/specs/Hashed", "elf_model/specs/RelSound", "arm_relocs/specs/Branch", "a32_isa/specs/Table", "rofixup/specs/Fixups",
-        "plt_code/specs/Table", "elf_write/specs/RelFile", "elf_write/specs/Strings", "elf_write/specs/Words",
-        "elf_write/specs/WritableRel", "elf_write/specs/Writes", "write_laws/specs/ReadBack",
-        "a32_text/specs/Token", "a32_text/specs/Word", "a32_text/specs/Taking", "a32_text/specs/Arg", "a32_text/specs/Address",
-        "a32_text/specs/List", "a32_text/specs/Operands", "a32_text/specs/Statement", "a32_text/specs/Printed", "a32_text/specs/Shown",
+        "elf_model/specs/Hashed", "elf_model/specs/RelSound", "arm_relocs/specs/Branch", "rofixup/specs/Fixups",
+        "plt_code/specs/Table", "elf_write/specs/WritableRel", "elf_write/specs/Writes", "write_laws/specs/ReadBack",
+        "elf_write/specs/HashTable", "elf_write/specs/TableSegment", "elf_write/specs/ObjectFile",
+        "elf_write/specs/WritableObject", "write_laws/specs/ObjectReadBack",
+        "a32_text/specs/Printed", "a32_text/specs/Shown",
+        "a32_asm/specs/Assembles", "a32_asm/specs/AssembledIsWritable", "a32_asm/specs/Shown",
+        "link_layout/specs/Layout", "link_model/specs/DynamicRels", "link_model/specs/DynamicSymbols",
+        "link_model/specs/GotLayout", "link_model/specs/Inputs", "link_model/specs/Joined", "link_model/specs/Needs",
+        "link_model/specs/Object", "link_model/specs/Places", "link_model/specs/Refusals", "link_model/specs/Sections",
+        "link_model/specs/Segments", "link_model/specs/SiteTests", "link_model/specs/Sites", "link_model/specs/Targets",
     )
 }
 IMPORT = re.compile(r"\buse Rattle\.(\w+)\.specs\.([\w.]+?)(?:\.\{([^}]*)\})?(?: as \w+)?;?\s*$", re.M)

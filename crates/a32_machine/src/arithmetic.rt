@@ -16,7 +16,7 @@ pub struct Outcome {
 }
 
 /// Two words of one sign whose sum has the other one.
-#[inline]
+#[inline(always)]
 fn overflows(a: u32, b: u32, sum: u32) -> bool
     ensures { result ≡ (same (bit_of a 31) (bit_of b 31) && not (same (bit_of a 31) (bit_of sum 31))) }
 {
@@ -25,7 +25,7 @@ fn overflows(a: u32, b: u32, sum: u32) -> bool
 }
 
 /// The sum of two words and a carry.
-#[inline]
+#[inline(always)]
 pub fn added(a: u32, b: u32, carry_in: bool) -> Outcome
     ensures { result ≡ spec.added a b carry_in }
 {

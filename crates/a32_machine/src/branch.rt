@@ -9,7 +9,7 @@ use crate::landing::landing_stop;
 use crate::registers::{put_reg, reg};
 
 /// Leaves the address of the next instruction in lr.
-#[inline]
+#[inline(always)]
 fn link_back(link: bool, cpu: &mut Cpu)
     ensures { cpu.new ≡ spec.linked link cpu.old }
 {
@@ -18,7 +18,7 @@ fn link_back(link: bool, cpu: &mut Cpu)
     }
 }
 
-#[inline]
+#[inline(always)]
 fn branch_target(pc: u32, imm24: u32) -> u32
     requires { imm24 < 2 ^ 24 }
     ensures { result ≡ spec.branch_target pc imm24 }
@@ -32,7 +32,7 @@ fn branch_target(pc: u32, imm24: u32) -> u32
 }
 
 /// Goes to the place that the field names.
-#[inline]
+#[inline(always)]
 pub fn branch(link: bool, imm24: u32, cpu: &mut Cpu) -> StepEnd
     requires { imm24 < 2 ^ 24 }
     ensures { (m : GuestMemory) → record { end_ = result; cpu = cpu.new; memory = m } ≡ spec.branched link imm24 cpu.old m }
@@ -44,7 +44,7 @@ pub fn branch(link: bool, imm24: u32, cpu: &mut Cpu) -> StepEnd
 }
 
 /// Goes to the address that a register holds.
-#[inline]
+#[inline(always)]
 pub fn jump(link: bool, m: u8, cpu: &mut Cpu) -> StepEnd
     requires { m < 16 }
     ensures { (mem : GuestMemory) → record { end_ = result; cpu = cpu.new; memory = mem } ≡ spec.jumped link m cpu.old mem }

@@ -6,7 +6,7 @@ ghost use Rattle.a32_machine.specs.Condition as spec;
 use crate::cpu::Cpu;
 
 /// Whether a condition holds.
-#[inline]
+#[inline(always)]
 pub fn holds(cond: u8, cpu: &Cpu) -> bool
     ensures { result ≡ spec.holds cond cpu.now }
 {

@@ -13,7 +13,7 @@ use crate::registers::{move_on, put_reg, reg};
 use crate::shifter::{Shifted, bit_of, operand_of};
 use a32_isa::Arg;
 
-#[inline]
+#[inline(always)]
 fn logical(cpu: &Cpu, b: Shifted, value: u32) -> Outcome
     ensures { result ≡ spec.logical cpu.now b value }
 {
@@ -24,7 +24,7 @@ fn logical(cpu: &Cpu, b: Shifted, value: u32) -> Outcome
     }
 }
 
-#[inline]
+#[inline(always)]
 fn outcome_of(op: u8, cpu: &Cpu, a: u32, b: Shifted) -> Outcome
     ensures { result ≡ spec.outcome_of op cpu.now a b }
 {
@@ -49,7 +49,7 @@ fn outcome_of(op: u8, cpu: &Cpu, a: u32, b: Shifted) -> Outcome
 }
 
 /// The flags that a result sets, where the instruction says so.
-#[inline]
+#[inline(always)]
 fn set_flags(s: bool, o: Outcome, cpu: &mut Cpu)
     ensures { cpu.new ≡ spec.with_flags s o cpu.old }
 {
@@ -62,7 +62,7 @@ fn set_flags(s: bool, o: Outcome, cpu: &mut Cpu)
 }
 
 /// A data operation, of register `n` and the operand, into register `d`.
-#[inline]
+#[inline(always)]
 #[tactic(auto, unfolding(crate::specs::DataProcessing::data_processed))]
 pub fn process_data(op: u8, s: bool, n: u8, d: u8, arg: &Arg, cpu: &mut Cpu) -> StepEnd
     requires n { n < 16 }
@@ -86,6 +86,7 @@ pub fn process_data(op: u8, s: bool, n: u8, d: u8, arg: &Arg, cpu: &mut Cpu) -> 
 }
 
 /// How many zeros stand above the highest one of a register.
+#[inline(always)]
 pub fn count_zeros(d: u8, m: u8, cpu: &mut Cpu) -> StepEnd
     requires d { d < 16 }
     requires m { m < 16 }
@@ -98,6 +99,7 @@ pub fn count_zeros(d: u8, m: u8, cpu: &mut Cpu) -> StepEnd
 }
 
 /// An immediate into a register.
+#[inline(always)]
 pub fn move_wide(d: u8, imm16: u16, cpu: &mut Cpu) -> StepEnd
     requires { d < 16 }
     ensures { (m : GuestMemory) → record { end_ = result; cpu = cpu.new; memory = m } ≡ spec.wide_moved d imm16 cpu.old m }
@@ -108,6 +110,7 @@ pub fn move_wide(d: u8, imm16: u16, cpu: &mut Cpu) -> StepEnd
 }
 
 /// An immediate into the upper half of a register.
+#[inline(always)]
 pub fn move_top(d: u8, imm16: u16, cpu: &mut Cpu) -> StepEnd
     requires { d < 16 }
     ensures { (m : GuestMemory) → record { end_ = result; cpu = cpu.new; memory = m } ≡ spec.top_moved d imm16 cpu.old m }

@@ -1,6 +1,6 @@
 //! Words that have been decoded, so that a loop decodes each of its words once.
 
-ghost use Rattle.std.specs.Prelude.{◌≡◌, ◌<◌, Some, option_map, length};
+ghost use Rattle.std.specs.Prelude.{◌≡◌, ◌<◌, All, IfOk, Some, option_map, length};
 ghost use Rattle.a32_isa.specs.Decoding.{decode_of};
 
 use a32_isa::{Instr, decode};
@@ -30,7 +30,9 @@ pub struct DecodedWords {
 }
 
 /// The instruction that changes nothing.
-fn no_operation() -> DecodedWord {
+fn no_operation() -> DecodedWord
+    ensures { result.word ≡ 0xe320f000 }
+{
     match decode(NO_OPERATION) {
         Some(instr) => DecodedWord {
             word: NO_OPERATION,
@@ -41,8 +43,10 @@ fn no_operation() -> DecodedWord {
 }
 
 impl DecodedWords {
-    /// As many as are kept, all of them one word.
-    pub fn new(alloc: Global) -> Result<Self, Memory> {
+    /// As many as are kept, all of them NOP.
+    pub fn new(alloc: Global) -> Result<Self, Memory>
+        ensures { IfOk result (λ words. All (λ place. place.word ≡ 0xe320f000) words.places.items) }
+    {
         let places = vec![in alloc; no_operation(); PLACES]?;
         Ok(DecodedWords { places })
     }

@@ -11,6 +11,7 @@ use crate::cpu::{StepEnd, StepStop};
 use guest_mem::Access;
 
 /// An access that is refused.
+#[inline(always)]
 pub fn stop_of(refusal: Access) -> StepEnd
     ensures { result ≡ Stop (spec.stop_of refusal) }
 {
@@ -22,7 +23,7 @@ pub fn stop_of(refusal: Access) -> StepEnd
 }
 
 /// Why a result can't go into a register: into r15 goes the address of an instruction alone.
-#[inline]
+#[inline(always)]
 pub fn landing_stop(d: u8, v: u32) -> Option<StepStop>
     ensures { (before next : Cpu) (m : GuestMemory) → MatchOption result (spec.landed before next m d v ≡ spec.went_on (with_reg next d v) m) (λ stop. spec.landed before next m d v ≡ spec.stopped before m stop) }
 {

@@ -16,14 +16,15 @@ use crate::cpu::{Cpu, StepEnd, StepStop};
 use crate::data::{count_zeros, move_top, move_wide, process_data};
 use crate::decoded::DecodedWords;
 use crate::landing::stop_of;
-use crate::multiple::{MultipleTransfer, registers_of, transfer_all};
+use crate::multiple::{MultipleTransfer, transfer_listed};
 use crate::multiply::{LongMultiplication, multiply, multiply_add, multiply_long};
 use crate::registers::{move_on, reg, whole};
 use crate::transfer::{SingleTransfer, Size, half_offset, mem_offset, moved_by, transfer};
 use a32_isa::{Instr, Op, decode, round_trips};
 use guest_mem::Guest;
 
-/// Obeys an instruction whose condition holds.
+/// Obeys an instruction whose condition holds. The loop that steps has it inline, but for what is long and rare.
+#[inline(always)]
 #[tactic(auto, unfolding(crate::specs::Step::execute))]
 fn execute(op: &Op, cpu: &mut Cpu, guest: &mut Guest) -> StepEnd
     requires fit { Fit (op_fields op.now) }
@@ -113,15 +114,7 @@ fn execute(op: &Op, cpu: &mut Cpu, guest: &mut Guest) -> StepEnd
             w,
             n,
             list,
-        } => {
-            let registers = registers_of(list);
-            transfer_all(
-                &MultipleTransfer { load, p, u, w, n },
-                &registers,
-                cpu,
-                guest,
-            )
-        }
+        } => transfer_listed(&MultipleTransfer { load, p, u, w, n }, list, cpu, guest),
         Op::Branch { link, imm24 } => branch(link, imm24, cpu),
         Op::Bx { m } => jump(false, m, cpu),
         Op::Blx { m } => jump(true, m, cpu),
@@ -133,7 +126,7 @@ fn execute(op: &Op, cpu: &mut Cpu, guest: &mut Guest) -> StepEnd
 }
 
 /// Obeys an instruction, if its condition holds.
-#[inline]
+#[inline(always)]
 fn obey(i: &Instr, word: u32, cpu: &mut Cpu, guest: &mut Guest) -> StepEnd
     requires row { IsInstruction word i.now }
     ensures { record { end_ = result; cpu = cpu.new; memory = guest.new } ≡ spec.obeyed cpu.old guest.old word (Some i.now) }
@@ -190,7 +183,7 @@ pub fn step(cpu: &mut Cpu, guest: &mut Guest) -> StepEnd
 }
 
 /// The same with words that have been decoded: one that is among them isn't decoded again.
-#[inline]
+#[inline(always)]
 pub fn step_decoded(words: &mut DecodedWords, cpu: &mut Cpu, guest: &mut Guest) -> StepEnd
     ensures step { record { end_ = result; cpu = cpu.new; memory = guest.new } ≡ spec.step_of cpu.old guest.old }
     ensures keeps { Keeps guest.old guest.new }

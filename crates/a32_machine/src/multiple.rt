@@ -13,7 +13,7 @@ use guest_mem::Guest;
 
 /// The registers of a list, rising.
 #[derive(Clone, Copy)]
-pub struct Registers {
+struct Registers {
     places: [u8; 16],
     count: usize,
     ghost few: { count ≤ 16 },
@@ -22,7 +22,7 @@ pub struct Registers {
 
 /// The registers whose bits are set.
 #[tactic(auto, unfolding(crate::specs::Multiple::registers_of))]
-pub fn registers_of(list: u16) -> Registers
+fn registers_of(list: u16) -> Registers
     ensures listed { take result.count result.places ≡ spec.registers_of list }
     ensures some { 0 < list → 0 < result.count }
 {
@@ -109,8 +109,9 @@ fn move_base(t: &MultipleTransfer, count: u32, cpu: &mut Cpu)
 }
 
 /// Loads or stores registers at rising words. A store is refused before its first word is written.
+#[inline(never)]
 #[tactic(auto, unfolding(crate::specs::Multiple::transferred_all))]
-pub fn transfer_all(
+fn transfer_all(
     t: &MultipleTransfer,
     registers: &Registers,
     cpu: &mut Cpu,
@@ -145,4 +146,15 @@ pub fn transfer_all(
             Err(refusal) => stop_of(refusal),
         }
     }
+}
+
+/// The same of a list of registers.
+#[inline(always)]
+pub fn transfer_listed(t: &MultipleTransfer, list: u16, cpu: &mut Cpu, guest: &mut Guest) -> StepEnd
+    requires n { t.now.n < 16 }
+    requires some { 0 < list }
+    ensures { record { end_ = result; cpu = cpu.new; memory = guest.new } ≡ spec.transferred_all t.now.load t.now.p t.now.u t.now.w t.now.n (spec.registers_of list) cpu.old guest.old }
+{
+    let registers = registers_of(list);
+    transfer_all(t, &registers, cpu, guest)
 }

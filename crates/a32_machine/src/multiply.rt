@@ -9,6 +9,7 @@ use crate::registers::{move_on, put_reg, reg};
 use crate::shifter::bit_of;
 
 /// A product into a register.
+#[inline(always)]
 fn keep_product(s: bool, d: u8, product: u32, cpu: &mut Cpu) -> StepEnd
     requires { d < 16 }
     ensures { (mem : GuestMemory) → record { end_ = result; cpu = cpu.new; memory = mem } ≡ spec.product_kept s d product cpu.old mem }
@@ -23,6 +24,7 @@ fn keep_product(s: bool, d: u8, product: u32, cpu: &mut Cpu) -> StepEnd
 }
 
 /// `m` times `s2`.
+#[inline(always)]
 #[tactic(auto, unfolding(crate::specs::Multiplication::multiplied))]
 pub fn multiply(s: bool, d: u8, s2: u8, m: u8, cpu: &mut Cpu) -> StepEnd
     requires d { d < 16 }
@@ -35,6 +37,7 @@ pub fn multiply(s: bool, d: u8, s2: u8, m: u8, cpu: &mut Cpu) -> StepEnd
 }
 
 /// `m` times `s2` plus `n`.
+#[inline(always)]
 #[tactic(auto, unfolding(crate::specs::Multiplication::multiplied_and_added))]
 pub fn multiply_add(s: bool, d: u8, n: u8, s2: u8, m: u8, cpu: &mut Cpu) -> StepEnd
     requires d { d < 16 }
@@ -60,6 +63,7 @@ fn long_product(kind: u8, a: u32, b: u32) -> u64
     }
 }
 
+#[inline(never)]
 fn long_result(kind: u8, a: u32, b: u32, held: u64) -> u64
     ensures { result ≡ spec.long_result kind a b held }
 {
@@ -84,6 +88,7 @@ pub struct LongMultiplication {
 }
 
 /// `m` times `s2` in 64 bits, with what the registers hold added in the kinds 1 and 3.
+#[inline(always)]
 #[tactic(auto, unfolding(crate::specs::Multiplication::multiplied_long))]
 pub fn multiply_long(long: LongMultiplication, cpu: &mut Cpu) -> StepEnd
     requires hi { long.hi < 16 }

@@ -20,7 +20,7 @@ fn are_words(words: &[u32])
 }
 
 /// A register as an instruction reads it.
-#[inline]
+#[inline(always)]
 pub fn reg(cpu: &Cpu, n: u8) -> u32
     requires { n < 16 }
     ensures { result ≡ spec.reg cpu.now n }
@@ -33,7 +33,7 @@ pub fn reg(cpu: &Cpu, n: u8) -> u32
 }
 
 /// Puts a value into a register.
-#[inline]
+#[inline(always)]
 pub fn put_reg(cpu: &mut Cpu, n: u8, v: u32)
     requires { n < 16 }
     ensures { cpu.new ≡ spec.with_reg cpu.old n v }
@@ -42,7 +42,7 @@ pub fn put_reg(cpu: &mut Cpu, n: u8, v: u32)
 }
 
 /// Moves on to the next instruction.
-#[inline]
+#[inline(always)]
 pub fn move_on(cpu: &mut Cpu)
     ensures { cpu.new ≡ spec.moved_on cpu.old }
 {

@@ -24,7 +24,7 @@ const ALL_OUT: Shifted = Shifted {
 };
 
 /// One bit of a word.
-#[inline]
+#[inline(always)]
 pub fn bit_of(x: u32, place: u8) -> bool
     requires { place < 32 }
     ensures { result ≡ bits.bit_of x place }
@@ -32,7 +32,7 @@ pub fn bit_of(x: u32, place: u8) -> bool
     (x >> place) % 2 == 1
 }
 
-#[inline]
+#[inline(always)]
 #[tactic(auto, using(crate::proofs::Shifts::lefts))]
 fn shifted_left(x: u32, by: u8) -> Shifted
     requires { 0 < by }
@@ -48,7 +48,7 @@ fn shifted_left(x: u32, by: u8) -> Shifted
     }
 }
 
-#[inline]
+#[inline(always)]
 #[tactic(auto, using(crate::proofs::Shifts::rights))]
 fn shifted_right(x: u32, by: u8) -> Shifted
     requires { 0 < by }
@@ -64,7 +64,7 @@ fn shifted_right(x: u32, by: u8) -> Shifted
     }
 }
 
-#[inline]
+#[inline(always)]
 #[tactic(auto, using(crate::proofs::Shifts::signs))]
 fn sign_shifted_right(x: u32, by: u8) -> Shifted
     requires { 0 < by }
@@ -89,7 +89,7 @@ fn sign_shifted_right(x: u32, by: u8) -> Shifted
     }
 }
 
-#[inline]
+#[inline(always)]
 fn rotated_right(x: u32, by: u8) -> Shifted
     ensures { result ≡ spec.rotated_right x by }
 {
@@ -100,7 +100,7 @@ fn rotated_right(x: u32, by: u8) -> Shifted
     }
 }
 
-#[inline]
+#[inline(always)]
 fn rotated_with_carry(x: u32, carry: bool) -> Shifted
     ensures { result ≡ spec.rotated_with_carry x carry }
 {
@@ -111,7 +111,7 @@ fn rotated_with_carry(x: u32, carry: bool) -> Shifted
 }
 
 /// A shift by an amount that a register holds. The kinds are 0 lsl, 1 lsr, 2 asr, 3 ror.
-#[inline]
+#[inline(always)]
 pub fn shifted_by(kind: u8, x: u32, by: u8, carry: bool) -> Shifted
     ensures { result ≡ spec.shifted_by kind x by carry }
 {
@@ -127,7 +127,7 @@ pub fn shifted_by(kind: u8, x: u32, by: u8, carry: bool) -> Shifted
 }
 
 /// A shift by a number in the instruction.
-#[inline]
+#[inline(always)]
 pub fn shifted_at(kind: u8, x: u32, imm: u8, carry: bool) -> Shifted
     ensures { result ≡ spec.shifted_at kind x imm carry }
 {
@@ -140,7 +140,7 @@ pub fn shifted_at(kind: u8, x: u32, imm: u8, carry: bool) -> Shifted
 }
 
 /// The second operand of a data operation.
-#[inline]
+#[inline(always)]
 pub fn operand_of(cpu: &Cpu, arg: &Arg) -> Shifted
     requires { Fit (arg_fields arg.now) }
     ensures { result ≡ spec.operand_of cpu.now arg.now }

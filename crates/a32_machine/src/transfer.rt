@@ -36,7 +36,7 @@ pub struct SingleTransfer {
 }
 
 /// A register moved up or down by an offset.
-#[inline]
+#[inline(always)]
 pub fn moved_by(u: bool, base: u32, offset: u32) -> u32
     ensures { result ≡ spec.moved_by u base offset }
 {
@@ -47,7 +47,7 @@ pub fn moved_by(u: bool, base: u32, offset: u32) -> u32
     }
 }
 
-#[inline]
+#[inline(always)]
 pub fn mem_offset(cpu: &Cpu, off: &MemOff) -> u32
     requires { Fit (mem_off_fields off.now) }
     ensures { result ≡ spec.mem_offset cpu.now off.now }
@@ -58,7 +58,7 @@ pub fn mem_offset(cpu: &Cpu, off: &MemOff) -> u32
     }
 }
 
-#[inline]
+#[inline(always)]
 pub fn half_offset(cpu: &Cpu, off: &HalfOff) -> u32
     requires { half_low off.now < 16 }
     ensures { result ≡ spec.half_offset cpu.now off.now }
@@ -70,7 +70,7 @@ pub fn half_offset(cpu: &Cpu, off: &HalfOff) -> u32
 }
 
 /// A number of some bytes with copies of its sign above, where it is signed.
-#[inline]
+#[inline(always)]
 fn extend(signed: bool, size: Size, v: u32) -> u32
     requires { v < 2 ^ (8 * spec.width_of size) }
     ensures { result ≡ spec.extend signed size v }
@@ -82,7 +82,7 @@ fn extend(signed: bool, size: Size, v: u32) -> u32
     }
 }
 
-#[inline]
+#[inline(always)]
 fn load(guest: &Guest, signed: bool, size: Size, addr: u32) -> Result<u32, Access>
     ensures { result ≡ spec.load_of signed size guest.now addr }
 {
@@ -95,7 +95,7 @@ fn load(guest: &Guest, signed: bool, size: Size, addr: u32) -> Result<u32, Acces
 }
 
 /// The low bytes of a word.
-#[inline]
+#[inline(always)]
 fn store(guest: &mut Guest, size: Size, addr: u32, v: u32) -> Result<(), Access>
     ensures { IsWritten result (spec.store_of size guest.old addr v) guest.old guest.new }
 {
@@ -107,7 +107,7 @@ fn store(guest: &mut Guest, size: Size, addr: u32, v: u32) -> Result<(), Access>
 }
 
 /// Leaves the base moved, where the transfer says so.
-#[inline]
+#[inline(always)]
 fn write_back(t: &SingleTransfer, cpu: &mut Cpu)
     requires { t.now.n < 16 }
     ensures { cpu.new ≡ spec.written_back t.now.p t.now.w t.now.n t.now.moved cpu.old }
@@ -118,7 +118,7 @@ fn write_back(t: &SingleTransfer, cpu: &mut Cpu)
 }
 
 /// Loads or stores a register.
-#[inline]
+#[inline(always)]
 #[tactic(auto, unfolding(crate::specs::Transfers::transferred))]
 pub fn transfer(t: &SingleTransfer, cpu: &mut Cpu, guest: &mut Guest) -> StepEnd
     requires n { t.now.n < 16 }

@@ -4,7 +4,7 @@ use Rattle.std.proofs.lemmas.List.{drop_all, map-append}
 use Rattle.std.proofs.lemmas.Grind.{flat_map-append}
 use Rattle.elf_model.specs.declared.relocatable.RelSection.{RelSection}
 use Rattle.elf_model.specs.declared.table.SectionHeader.{SectionHeader}
-use Rattle.elf_write.specs.Words.{table_bytes, section_row, zeros, aligned}
+use Rattle.elf_write.specs.Words.{table_bytes, section_row, zeros, step_of, aligned, offset_like}
 use Rattle.elf_write.specs.RelFile.{end_of, end_of_all}
 
 -- one part more
@@ -33,8 +33,11 @@ headers_join xs ys = ap table_bytes (map-append section_row xs ys) ∙ flat_map-
 
 -- ---- sections end behind where they begin
 
+pub offset_like_from : (place align at : ℕ) → at ≤ offset_like place align at
+offset_like_from place align at = omega arith
+
 pub aligned_from : (align at : ℕ) → at ≤ aligned align at
-aligned_from align at = omega arith
+aligned_from align at = offset_like_from 0 (step_of align) at
 
 end_grows : (at : ℕ) (s : RelSection) → at ≤ end_of at s
 end_grows at s = let from = aligned_from s.align at in omega (arith, from)

@@ -4,3 +4,7 @@ pub mod RelFile
 pub mod WritableRel
 pub mod Writes
 pub mod parts
+pub mod HashTable
+pub mod TableSegment
+pub mod ObjectFile
+pub mod WritableObject

@@ -1,2 +1,3 @@
 -- What contracts inside the program say: the contracts of the writers cite none of it.
 pub mod Sizes
+pub mod ObjectSizes

@@ -1,6 +1,6 @@
 //! The bytes of a relocatable file, part by part.
 
-ghost use Rattle.std.specs.Prelude.{◌≡◌, ◌++◌, ◌+◌, ◌-◌, ◌^◌, ◌≤◌, ◌<◌, ◌||◌, ◌==◌, true, OnOk, All, length, map};
+ghost use Rattle.std.specs.Prelude.{◌≡◌, ◌++◌, ◌+◌, ◌-◌, ◌^◌, ◌≤◌, ◌<◌, ◌||◌, ◌==◌, true, OnOk, All, length};
 ghost use Rattle.std.specs.List.{flat_map};
 ghost use Rattle.elf_model.specs.declared.constants.TheConstants.{EHDR_SIZE, MAX_ENTRIES};
 ghost use Rattle.elf_model.specs.RelSound.{is_place_among};
@@ -17,10 +17,10 @@ use crate::header::FileHeader;
 use crate::limits::MAX_FILE_BYTES;
 use crate::rel_headers::put_headers;
 use crate::rel_layout::{RelLayout, end_of, file_size, layout_of};
-use crate::rows::{aligned, put_header, put_rel, put_symbol, put_zeros};
-use crate::strings::{TABLE_NAMES, name_size, place_of, put_name};
+use crate::rows::{aligned, put_header, put_rels, put_symbol, put_zeros};
+use crate::strings::{TABLE_NAMES, name_size, place_of, put_name, put_symbol_strings};
 use elf_model::constants::{EHDR_SIZE, ET_REL, SHN_ABS, SHN_COMMON, SHN_UNDEF};
-use elf_model::{Place, Rel, RelObject, RelSection, Symbol};
+use elf_model::{Place, RelObject, RelSection, Symbol};
 use fd_base::{Bytes, Memory};
 use std::alloc::Global;
 
@@ -64,17 +64,6 @@ fn put_contents(out: &mut Bytes, sections: &[RelSection]) -> Result<(), Memory>
     Ok(())
 }
 
-/// Puts a table of relocations.
-fn put_rels(out: &mut Bytes, rels: &[Rel]) -> Result<(), Memory>
-    requires { All (λ r. r.symbol < 2 ^ 24) rels.now }
-    ensures { OnOk result (out.new ≡ out.old ++ word.table_bytes (map word.rel_row rels.now)) }
-{
-    for rel in rels {
-        put_rel(out, rel)?;
-    }
-    Ok(())
-}
-
 /// Puts the tables of relocations of sections.
 fn put_tables(out: &mut Bytes, sections: &[RelSection]) -> Result<(), Memory>
     requires { All (λ s. All (λ r. r.symbol < 2 ^ 24) s.rels) sections.now }
@@ -112,17 +101,6 @@ fn put_symbols(out: &mut Bytes, symbols: &[Symbol]) -> Result<(), Memory>
         let name = place_of(at, &symbol.name);
         put_symbol(out, name, index_of(symbol.place), symbol)?;
         at += name_size(&symbol.name);
-    }
-    Ok(())
-}
-
-/// Puts the strings of symbols.
-fn put_symbol_strings(out: &mut Bytes, symbols: &[Symbol]) -> Result<(), Memory>
-    ensures { OnOk result (out.new ≡ out.old ++ strings (map (λ s. s.name) symbols.now)) }
-{
-    out.push(0)?;
-    for symbol in symbols {
-        put_name(out, &symbol.name)?;
     }
     Ok(())
 }

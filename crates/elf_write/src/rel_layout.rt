@@ -1,17 +1,17 @@
 //! Where the parts of a relocatable file stand.
 
-ghost use Rattle.std.specs.Prelude.{◌≡◌, ◌+◌, ◌*◌, ◌^◌, ◌≤◌, ◌<◌, All, IfSome, length, map, filter};
+ghost use Rattle.std.specs.Prelude.{◌≡◌, ◌+◌, ◌*◌, ◌^◌, ◌≤◌, ◌<◌, All, IfSome, length, filter};
 ghost use Rattle.std.specs.List.{flat_map, sum_by};
 ghost use Rattle.elf_model.specs.declared.constants.TheConstants.{EHDR_SIZE, MAX_ENTRIES};
 ghost use Rattle.elf_model.specs.RelSound.{IsNameText};
-ghost use Rattle.elf_write.specs.Strings.{name_bytes, strings};
+ghost use Rattle.elf_write.specs.Strings.{name_bytes};
 ghost use Rattle.elf_write.specs.RelFile as spec;
 ghost use Rattle.elf_write.specs.parts.Sizes.{IsSmall, AreSmall, IsLayoutSmall};
 
 use crate::rows::aligned;
-use crate::strings::{TABLE_NAMES, name_size};
+use crate::strings::{TABLE_NAMES, name_size, symbol_strings_size};
 use elf_model::constants::{EHDR_SIZE, REL_SIZE, SHDR_SIZE, SYM_SIZE};
-use elf_model::{RelObject, RelSection, Symbol};
+use elf_model::{RelObject, RelSection};
 
 /// Where the parts of a file stand, and the index of the table of symbols.
 #[derive(Clone, Copy)]
@@ -66,20 +66,6 @@ fn rel_count(sections: &[RelSection]) -> u64
     count
 }
 
-/// How many bytes the strings of the symbols have.
-fn strings_size(symbols: &[Symbol]) -> u64
-    requires few { length symbols.now ≤ MAX_ENTRIES }
-    requires named { All (λ s. IfSome s.name IsNameText) symbols.now }
-    ensures size { result ≡ length (strings (map (λ s. s.name) symbols.now)) }
-    ensures few { result ≤ 2 ^ 25 }
-{
-    let mut size = 1;
-    for symbol in symbols {
-        size += u64::from(name_size(&symbol.name));
-    }
-    size
-}
-
 /// Where the names of the sections end among their strings.
 pub fn names_end(sections: &[RelSection]) -> u32
     requires { AreSmall sections.now }
@@ -123,7 +109,7 @@ pub fn layout_of(object: &RelObject) -> RelLayout
     let rels_at = end_of_all(sections);
     let symbols_at = rels_at + u64::from(REL_SIZE) * rel_count(sections);
     let strings_at = symbols_at + u64::from(SYM_SIZE) * symbols.len() as u64;
-    let names_at = strings_at + strings_size(symbols);
+    let names_at = strings_at + u64::from(symbol_strings_size(symbols));
     RelLayout {
         rels: rels_at,
         symbols: symbols_at,

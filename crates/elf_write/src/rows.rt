@@ -1,6 +1,6 @@
 //! The rows of tables, put behind other bytes.
 
-ghost use Rattle.std.specs.Prelude.{◌≡◌, ◌++◌, ◌+◌, ◌*◌, ◌^◌, ◌≤◌, ◌<◌, ◌-◌, OnOk};
+ghost use Rattle.std.specs.Prelude.{◌≡◌, ◌++◌, ◌+◌, ◌*◌, ◌^◌, ◌≤◌, ◌<◌, ◌-◌, All, OnOk, map};
 ghost use Rattle.fd_base.specs.Words.{word_bytes};
 ghost use Rattle.elf_write.specs.Words as spec;
 
@@ -90,11 +90,22 @@ pub fn put_symbol(out: &mut Bytes, name: u32, index: u16, symbol: &Symbol) -> Re
 }
 
 /// Puts a relocation.
-pub fn put_rel(out: &mut Bytes, rel: &Rel) -> Result<(), Memory>
+fn put_rel(out: &mut Bytes, rel: &Rel) -> Result<(), Memory>
     requires { rel.now.symbol < 2 ^ 24 }
     ensures { OnOk result (out.new ≡ out.old ++ word_bytes (spec.rel_row rel.now)) }
 {
     out.push_words(&[rel.site, u32::from(rel.kind) + 256 * rel.symbol])
+}
+
+/// Puts a table of relocations.
+pub fn put_rels(out: &mut Bytes, rels: &[Rel]) -> Result<(), Memory>
+    requires { All (λ r. r.symbol < 2 ^ 24) rels.now }
+    ensures { OnOk result (out.new ≡ out.old ++ spec.table_bytes (map spec.rel_row rels.now)) }
+{
+    for rel in rels {
+        put_rel(out, rel)?;
+    }
+    Ok(())
 }
 
 /// Puts zero bytes.

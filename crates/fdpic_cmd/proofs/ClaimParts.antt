@@ -7,7 +7,7 @@ use Rattle.fdpic_cmd.specs.declared.status.Status.TheVariants.{Done, Memory, Wor
 use Rattle.fdpic_cmd.specs.declared.command.Command.{Command}
 use Rattle.fdpic_cmd.specs.Outcome.{Outcome}
 use Rattle.fdpic_cmd.specs.Ended.{Kind, own, refusal, lacks, unlisted, store_failed, sink_failed, kind_of, EndsAs, Outside, CameTo, IsPartly, IsCutOff, IsCutOffUnless, KeepsOthers}
-use Rattle.fdpic_cmd.specs.Answers.{Answers, IsStatus, KeepsFiles}
+use Rattle.fdpic_cmd.specs.Answers.{Answers, ChangesIfDone, IsStatus, KeepsFiles}
 use Rattle.fdpic_cmd.specs.Meaning.{target}
 use Rattle.fdpic_cmd.specs.Lines.{line, line_of, status_text}
 use Rattle.fd_base.proofs.Changing.{same_others}
@@ -48,6 +48,16 @@ kept (Some name) old new e = same_others name old new e
 pub nothing_kept : (command : Option Command) (old new : Option Files) → new ≡ old → KeepsFiles command old new
 nothing_kept None old new e = e
 nothing_kept (Some command) old new e = kept (target command) old new e
+
+-- where all files stay, none has changed
+pub all_stay : (status : Status) (files later : Option Files) (old new : ℕ) → later ≡ files → ChangesIfDone status files later old new
+all_stay status files later old new e = inr (inr e)
+
+-- want of memory takes the place of no command that is done
+pub still_unchanged : (status result : Status) (files later : Option Files) (old new : ℕ) → ChangesIfDone status files later old new
+    → (status ≡ Done → result ≡ Done) → ChangesIfDone result files later old new
+still_unchanged status result files later old new (inl done) stays = inl (stays done)
+still_unchanged status result files later old new (inr e) stays = inr e
 
 -- the line of a status that isn't Done
 pub line_is : (status : Status) → status ≢ Done → line_of status ≡ line (status_text status)

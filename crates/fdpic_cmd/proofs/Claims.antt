@@ -52,6 +52,10 @@ pub refused : (c : Option Command) (old new : Outside) (s : Status) → Answers 
 refused None old new s a r e = absurd (not_own s (Refused r) a.0 e refl)
 refused (Some command) old new s a r e = let P : Status → Type 0 = Answers (Some command) old new in (subst P e a).2
 
+pub refused_keeps : (c : Option Command) (old new : Outside) (s : Status) → Answers c old new s → (r : Refusal) → s ≡ Refused r → new.files ≡ old.files
+refused_keeps None old new s a r e = absurd (not_own s (Refused r) a.0 e refl)
+refused_keeps (Some command) old new s a r e = let P : Status → Type 0 = Answers (Some command) old new in (subst P e a).1
+
 neither : (s : Status) → s ≡ Words ⊎ s ≡ Memory → kind_of s ≡ own → ⊥
 neither s (inl w) e = false≢true (ap is_other (sym (ap kind_of w) ∙ e))
 neither s (inr m) e = false≢true (ap is_other (sym (ap kind_of m) ∙ e))

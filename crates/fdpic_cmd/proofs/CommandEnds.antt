@@ -2,12 +2,14 @@
 use Rattle.std.proofs.Common.{◌≡◌, ℕ, List, Option, Some, None, Result, Ok, Err, refl, sym, subst, inl, inr, IfSome, Bool, true, false}
 use Rattle.fd_base.specs.Fetched.{Files}
 use Rattle.fd_base.specs.Grown.{Grew, GrewByPart}
+use Rattle.fd_base.proofs.Growing.{grew_nothing}
 use Rattle.fdpic_cmd.specs.declared.status.Status.{Status}
 use Rattle.fdpic_cmd.specs.declared.status.Status.TheVariants.{Done}
 use Rattle.fdpic_cmd.specs.declared.status.Failure.{Failure}
 use Rattle.fdpic_cmd.specs.declared.status.Failure.TheVariants.{Refused as Refuses, StoreFault as Fails, Memory as Lacks}
-use Rattle.fdpic_cmd.specs.Outcome.{Outcome, writes}
-use Rattle.fdpic_cmd.specs.Ended.{Kind, own, refusal, lacks, unlisted, store_failed, sink_failed, kind_of, EndsAs, WritesAs, Outside, outside, Ends, IsCutOffUnless, CameTo, IsPartly, Gives, Says, failed}
+use Rattle.fdpic_cmd.specs.Answers.{ChangesIfDone}
+use Rattle.fdpic_cmd.specs.Outcome.{Outcome, writes, puts}
+use Rattle.fdpic_cmd.specs.Ended.{Kind, own, refusal, lacks, unlisted, store_failed, sink_failed, kind_of, EndsAs, WritesAs, Outside, outside, Ends, IsCutOffUnless, CameTo, IsPartly, Gives, Puts, PutsFile, Says, failed, put_status}
 
 module _ (at_once : Bool) (means : Files → Outcome → Type 0) where
   came : (files : Option Files) (f g h k : ℕ) (out later : Option (List ℕ)) (text : List ℕ) (status : Status) → IfSome files (λ told. means told (writes text)) → Done ≡ status → Grew out later text → IfSome files (CameTo means (outside files f out h) (outside files g later k) status)
@@ -45,3 +47,33 @@ module _ (at_once : Bool) (means : Files → Outcome → Type 0) where
       let P : Option Files → Type 0 = λ a. Ends at_once means (outside files f out h) (outside a g later k) status in
       let Q : Status → Type 0 = λ s. Ends at_once means (outside files f out h) (outside files g later k) s in
       subst P (sym same) (subst Q (sym e.0) (failing files f g h k out later failure m e.1))
+
+  put_done : (name : List ℕ) (files after : Option Files) (f g h : ℕ) (out : Option (List ℕ)) → IfSome files (PutsFile means name after)
+      → IfSome files (CameTo means (outside files f out h) (outside after g out h) Done)
+  put_done name None after f g h out m = tt
+  put_done name (Some told) after f g h out m =
+      record { outcome = puts name m.bytes; meant = m.meant; status_is = refl; text = grew_nothing out out refl; put = m.put }
+
+  put_failed : (name : List ℕ) (files after : Option Files) (f g h : ℕ) (out : Option (List ℕ)) (e : Failure) → Puts means name files after f g (Err e)
+      → Ends at_once means (outside files f out h) (outside after g out h) (failed e)
+  put_failed name files after f g h out (Refuses r) m = (refl, m.0, m.1)
+  put_failed name files after f g h out Fails m = (unwritten at_once (outside files f out h) (outside after g out h) refl, m)
+  put_failed name files after f g h out Lacks m = inl refl
+
+  -- a command that puts a file: out stays
+  pub has_put : (name : List ℕ) (files after : Option Files) (f g h : ℕ) (out : Option (List ℕ)) (result : Result (Unit {0}) Failure) (status : Status)
+      → status ≡ put_status result → Puts means name files after f g result → Ends at_once means (outside files f out h) (outside after g out h) status
+  has_put name files after f g h out (Ok done) status is m =
+      let Q : Status → Type 0 = λ s. Ends at_once means (outside files f out h) (outside after g out h) s in
+      subst Q (sym is) (put_done name files after f g h out m)
+  has_put name files after f g h out (Err failure) status is m =
+      let Q : Status → Type 0 = λ s. Ends at_once means (outside files f out h) (outside after g out h) s in
+      subst Q (sym is) (put_failed name files after f g h out failure m)
+
+-- where a file isn't put, the store has failed, or all files stay
+pub changed_by_put : (means : Files → Outcome → Type 0) (name : List ℕ) (files after : Option Files) (f g : ℕ) (result : Result (Unit {0}) Failure)
+    (status : Status) → status ≡ put_status result → Puts means name files after f g result → ChangesIfDone status files after f g
+changed_by_put means name files after f g (Ok done) status is m = inl is
+changed_by_put means name files after f g (Err (Refuses r)) status is m = inr (inr m.0)
+changed_by_put means name files after f g (Err Fails) status is m = inr (inl m)
+changed_by_put means name files after f g (Err Lacks) status is m = inr (inr m)

@@ -19,11 +19,13 @@ use Rattle.load_outcomes.specs.parts.Outcomes.{LoadComesTo}
 use Rattle.load_outcomes.proofs.EachLoad.{loads_come_to_lem}
 use Rattle.run_laws.specs.parts.RunLaws.{HasEnded}
 use Rattle.run_laws.proofs.RunsComeTo.{runs_come_to_lem}
-use Rattle.fdpic_cmd.specs.declared.command.Command.TheVariants.{Bind, BindJob, Code, Run, Show}
+use Rattle.fdpic_cmd.specs.declared.command.Command.TheVariants.{As, Bind, BindJob, Code, Run, Show}
 use Rattle.fdpic_cmd.specs.declared.status.Refusal.{Refusal}
 use Rattle.fdpic_cmd.specs.declared.status.Refusal.TheVariants.{Job as NoJob, Load, TooLong, NoFile}
 use Rattle.fdpic_cmd.specs.declared.status.Status.{Status}
 use Rattle.fdpic_cmd.specs.declared.status.Status.TheVariants.{Done, Stopped}
+use Rattle.a32_asm.specs.Text.{assembled}
+use Rattle.fdpic_cmd.specs.Assemble.{AsMeans, file_of, put_as}
 use Rattle.fdpic_cmd.specs.Bind.{plan_of, refusal_of}
 use Rattle.fdpic_cmd.specs.Files.{IsFile, OnFile, OnFound}
 use Rattle.fdpic_cmd.specs.Code.{code_listing}
@@ -51,6 +53,10 @@ module _ (told : Files) (name : List ℕ) (means : List ℕ → Outcome → Type
   -- what is done with a file comes to something, where what is done with its bytes does
   on_file : (o : Outcome) × OnFile told name means o
   on_file = by_file (get told name) refl
+
+as_comes_to : (told : Files) (out input : List ℕ) → (o : Outcome) × AsMeans out input told o
+as_comes_to told out input =
+    on_file told input (λ text o. o ≡ put_as out (file_of (assembled text))) (λ text file. (put_as out (file_of (assembled text)), refl))
 
 code_comes_to : (told : Files) (name : List ℕ) → (o : Outcome) × CodeMeans name told o
 code_comes_to told name = on_file told name (λ bytes o. o ≡ listed code_listing name bytes) (λ bytes file. (listed code_listing name bytes, refl))
@@ -114,6 +120,7 @@ plan_fits : (file : List ℕ) (text data' : ℕ) → Fits (plan_of file text dat
 plan_fits file text data' = record { some_threads = omega arith; some_processes = omega arith; stacks = omega arith; modules = omega arith }
 
 pub commands_come_to_lem : CommandsComeTo
+commands_come_to_lem (As out input) told = as_comes_to told out input
 commands_come_to_lem (Bind file text data') told =
     program_comes_to (plan_of file text data') file (refusal_of file) told (loads_come_to_lem.programs (plan_of file text data') told file (plan_fits file text data') (omega arith))
 commands_come_to_lem (BindJob file) told =

@@ -1,5 +1,5 @@
 -- What is done with a file that is found.
-use Rattle.std.proofs.Common.{◌≡◌, ℕ, ◌≤◌, List, length, Option, Some, None, refl, sym, subst, arith, Bool, true, false, nat_lt, MatchBool, ◌≢◌}
+use Rattle.std.proofs.Common.{◌≡◌, ℕ, ◌≤◌, List, length, Option, Some, None, IfSome, refl, sym, subst, arith, Bool, true, false, nat_lt, MatchBool, ◌≢◌}
 use Rattle.std.specs.FinMap.{get}
 use Rattle.fd_base.specs.Fetched.{Files}
 use Rattle.fdpic_cmd.specs.Outcome.{Outcome, refuses}
@@ -7,7 +7,7 @@ use Rattle.fdpic_cmd.specs.declared.status.Refusal.{Refusal}
 use Rattle.fdpic_cmd.specs.declared.status.Refusal.TheVariants.{NoFile, TooLong}
 use Rattle.fdpic_cmd.specs.Files.{OnFile, OnFound, IsFile, Never}
 
-not_long : (n : ℕ) → n ≤ 4194304 → nat_lt 4194304 n ≡ false
+pub not_long : (n : ℕ) → n ≤ 4194304 → nat_lt 4194304 n ≡ false
 not_long n le = grind arith
 
 -- the file is there, and so the outcome is that of its bytes
@@ -28,6 +28,12 @@ before_found name means o (Some bytes) h =
 -- a refusal of the file itself, whatever would be done with its bytes
 pub before : (told : Files) (name : List ℕ) (means : List ℕ → Outcome → Type 0) (o : Outcome) → OnFile told name Never o → OnFile told name means o
 before told name means o h = before_found name means o (get told name) h
+
+-- the same where files are told
+pub before_where : (files : Option Files) (name : List ℕ) (means : List ℕ → Outcome → Type 0) (r : Refusal)
+    → IfSome files (λ told. OnFile told name Never (refuses r)) → IfSome files (λ told. OnFile told name means (refuses r))
+before_where None name means r h = tt
+before_where (Some told) name means r h = before told name means (refuses r) h
 
 -- what holds of each outcome of the bytes holds of that of the file
 found_at : (name : List ℕ) (means others : List ℕ → Outcome → Type 0) → ((bytes : List ℕ) (o : Outcome) → means bytes o → others bytes o)

@@ -1,3 +1,4 @@
+pub mod AssembledFiles
 pub mod ClaimParts
 pub mod Claims
 pub mod CodeLines

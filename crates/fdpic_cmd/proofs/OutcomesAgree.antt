@@ -13,8 +13,10 @@ use Rattle.run_model.specs.declared.thread.Turned.TheVariants as turned
 use Rattle.run_model.specs.Courses.{Course}
 use Rattle.run_model.specs.Report.{report_of}
 use Rattle.fdpic_cmd.specs.declared.command.Command.{Command}
-use Rattle.fdpic_cmd.specs.declared.command.Command.TheVariants.{Bind, BindJob, Code, Run, Show}
+use Rattle.fdpic_cmd.specs.declared.command.Command.TheVariants.{As, Bind, BindJob, Code, Run, Show}
 use Rattle.fdpic_cmd.specs.Outcome.{Outcome, writes, refuses}
+use Rattle.a32_asm.specs.Text.{assembled}
+use Rattle.fdpic_cmd.specs.Assemble.{AsMeans, file_of, put_as}
 use Rattle.fdpic_cmd.specs.Bind.{plan_of, refusal_of}
 use Rattle.fdpic_cmd.specs.Jobs.{OnJob, OnNoJob, JobMeans}
 use Rattle.fdpic_cmd.specs.Program.{ProgramMeans}
@@ -59,6 +61,12 @@ agree_found name means agree (Some bytes) a b p q =
       | true ↦ λ p q. agree_same a b _ p q
       | false ↦ λ p q. agree bytes a b p q
     ] p q
+
+-- a text has one file, or one refusal
+as_agrees : (out input : List ℕ) (told : Files) (a b : Outcome) → AsMeans out input told a → AsMeans out input told b → Agree a b
+as_agrees out input told a b p q =
+    agree_found input (λ text o. o ≡ put_as out (file_of (assembled text))) (λ text a b p q. agree_same a b (put_as out (file_of (assembled text))) p q)
+    (get told input) a b p q
 
 -- a file has one listing, or one refusal
 code_agrees : (file : List ℕ) (told : Files) (a b : Outcome) → CodeMeans file told a → CodeMeans file told b → Agree a b
@@ -113,6 +121,7 @@ run_agrees told job a b (inr p) (inr q) =
     agree_same a b (refuses (Load q.refusal)) (p.says ∙ ap (λ r. refuses (Load r)) same) q.says
 
 pub agrees : (command : Command) (told : Files) (a b : Outcome) → Means command told a → Means command told b → Agree a b
+agrees (As out input) told a b p q = as_agrees out input told a b p q
 agrees (Bind file text data') told a b p q = program_agrees (plan_of file text data') file (refusal_of file) told a b p q
 agrees (BindJob file) told a b p q =
     in_file (λ job o. ProgramMeans job.plan job.program Load told o) (λ job a b p q. program_agrees job.plan job.program Load told a b p q) file told a b p q

@@ -5,13 +5,12 @@ use Rattle.elf_model.specs.declared.refusal.ElfRefusal.{ElfRefusal}
 use Rattle.elf_listing.specs.Shown.{listing_of}
 use Rattle.fdpic_cmd.specs.declared.status.Failure.{Failure}
 use Rattle.fdpic_cmd.specs.declared.status.Failure.TheVariants.{Refused, StoreFault, Memory}
-use Rattle.fdpic_cmd.specs.declared.status.Refusal.{Refusal}
 use Rattle.fdpic_cmd.specs.declared.status.Refusal.TheVariants.{Elf}
 use Rattle.fdpic_cmd.specs.Ended.{Gives}
 use Rattle.fdpic_cmd.specs.Outcome.{Outcome, writes, refuses}
-use Rattle.fdpic_cmd.specs.Files.{OnFile, IsFile, Never, Fetched}
+use Rattle.fdpic_cmd.specs.Files.{IsFile, Fetched}
 use Rattle.fdpic_cmd.specs.Show.{shown_as, ShowMeans}
-use Rattle.fdpic_cmd.proofs.FoundFiles.{found, before}
+use Rattle.fdpic_cmd.proofs.FoundFiles.{found, before_where}
 
 abbrev IsShown : List ℕ → List ℕ → Outcome → Type 0
 IsShown name bytes o = o ≡ shown_as name (listing_of bytes)
@@ -31,14 +30,9 @@ pub refused : (files : Option Files) (name bytes : List ℕ) (r : ElfRefusal) �
     → IfSome files (λ told. ShowMeans name told (refuses (Elf name r)))
 refused files name bytes r file is = at files name bytes (Err r) file is
 
-said_before : (files : Option Files) (name : List ℕ) (r : Refusal) → IfSome files (λ told. OnFile told name Never (refuses r))
-    → IfSome files (λ told. ShowMeans name told (refuses r))
-said_before None name r h = tt
-said_before (Some told) name r h = before told name (IsShown name) (refuses r) h
-
 -- a file that isn't there, is too long or can't be fetched
 pub not_there : (files : Option Files) (name : List ℕ) (old new : ℕ) (e : Failure) → Fetched files name old new (Err e)
     → Gives (ShowMeans name) files old new (Err e)
-not_there files name old new (Refused r) h = said_before files name r h
+not_there files name old new (Refused r) h = before_where files name (IsShown name) r h
 not_there files name old new StoreFault h = h
 not_there files name old new Memory h = tt

@@ -4,7 +4,7 @@ use Rattle.fd_base.specs.Fetched.{Files}
 use Rattle.fd_base.specs.Faults.{Rose}
 use Rattle.fd_base.specs.Grown.{Grew, GrewByPart}
 use Rattle.fdpic_cmd.specs.declared.status.Status.{Status}
-use Rattle.fdpic_cmd.specs.declared.status.Status.TheVariants.{Memory, Words, StoreFault, SinkFault}
+use Rattle.fdpic_cmd.specs.declared.status.Status.TheVariants.{Done, Memory, Words, StoreFault, SinkFault}
 use Rattle.fdpic_cmd.specs.declared.command.Command.{Command}
 use Rattle.fdpic_cmd.specs.Outcome.{Outcome}
 use Rattle.fdpic_cmd.specs.Forms.{command_of}
@@ -25,6 +25,10 @@ Answers (Some command) old new status = Ends (is_at_once command) (Means command
 abbrev pub KeepsFiles : Option Command → Option Files → Option Files → Type 0
 KeepsFiles None old new = new ≡ old
 KeepsFiles (Some command) old new = KeepsOthers (target command) old new
+
+-- files change only where the command is done, or where the store failed, which was counted
+abbrev pub ChangesIfDone : Status → Option Files → Option Files → ℕ → ℕ → Type 0
+ChangesIfDone status files later old new = status ≡ Done ⊎ Rose old new ⊎ later ≡ files
 
 -- this status, or want of memory in its place
 abbrev pub IsStatus : Status → Status → Type 0

@@ -8,7 +8,7 @@ use Rattle.fdpic_cmd.specs.declared.status.Status.TheVariants.{Done, Memory, Wor
 use Rattle.fdpic_cmd.specs.declared.status.Refusal.{Refusal}
 use Rattle.fdpic_cmd.specs.declared.status.Failure.{Failure}
 use Rattle.fdpic_cmd.specs.declared.status.Failure.TheVariants.{Refused as Refuses, StoreFault as Fails, Memory as Lacks}
-use Rattle.fdpic_cmd.specs.Outcome.{Outcome, Output, writes, refuses}
+use Rattle.fdpic_cmd.specs.Outcome.{Outcome, Output, writes, puts, refuses}
 
 -- the outside of a command: files and bytes where they are told, and the counts of faults
 pub record Outside : Type 0 where
@@ -90,11 +90,29 @@ Gives means files old new (Err (Refuses r)) = IfSome files (λ told. means told 
 Gives means files old new (Err Fails) = Rose old new
 Gives means files old new (Err Lacks) = Unit {0}
 
+-- a file was put, as the command means
+pub record PutsFile (means : Files → Outcome → Type 0) (name : List ℕ) (later : Option Files) (told : Files) : Type 0 where
+  pub bytes : List ℕ
+  pub meant : means told (puts name bytes)
+  pub put : later ≡ Some (with_file name bytes told)
+
+-- the answer of a command that puts a file
+abbrev pub Puts : (Files → Outcome → Type 0) → List ℕ → Option Files → Option Files → ℕ → ℕ → Result (Unit {0}) Failure → Type 0
+Puts means name files later old new (Ok done) = IfSome files (PutsFile means name later)
+Puts means name files later old new (Err (Refuses r)) = (later ≡ files) × IfSome files (λ told. means told (refuses r))
+Puts means name files later old new (Err Fails) = Rose old new
+Puts means name files later old new (Err Lacks) = later ≡ files
+
 -- the status of a failure
 abbrev pub failed : Failure → Status
 failed (Refuses r) = Refused r
 failed Fails = StoreFault
 failed Lacks = Memory
+
+-- that of a command that puts a file
+abbrev pub put_status : Result (Unit {0}) Failure → Status
+put_status (Ok done) = Done
+put_status (Err failure) = failed failure
 
 abbrev pub WritesAs : Kind → List ℕ → Option (List ℕ) → Option (List ℕ) → ℕ → ℕ → Status → Type 0
 WritesAs own text out later old new status = (Done ≡ status) × Grew out later text

@@ -4,11 +4,21 @@ use Rattle.std.specs.Str.{bytes_eq}
 use Rattle.fd_base.specs.Name.{name_refusal_of}
 use Rattle.fd_base.specs.Texts.{number_of}
 use Rattle.fdpic_cmd.specs.declared.command.Command.{Command}
-use Rattle.fdpic_cmd.specs.declared.command.Command.TheVariants.{Bind, BindJob, Code, Run, Show}
+use Rattle.fdpic_cmd.specs.declared.command.Command.TheVariants.{As, Bind, BindJob, Code, Run, Show}
 
 -- a word as the name of a file, where it is one
 unfoldable pub name_of : List ℕ → Option (List ℕ)
 name_of word = if is_none (name_refusal_of word) then Some word else None
+
+abbrev pub as_with : Option (List ℕ) → Option (List ℕ) → Option Command
+as_with (Some out) (Some input) = Some (As out input)
+as_with (Some out) None = None
+as_with None input = None
+
+-- as OUT IN
+abbrev pub as_of : List (List ℕ) → Option Command
+as_of (out ∷ input ∷ []) = as_with (name_of out) (name_of input)
+as_of _ = None
 
 abbrev pub bind_with : Option (List ℕ) → Option ℕ → Option ℕ → Option Command
 bind_with (Some file) (Some text) (Some data') = Some (Bind file text data')
@@ -44,7 +54,8 @@ show_of words = option_map Show (file_of words)
 abbrev pub command_of : List (List ℕ) → Option Command
 command_of [] = None
 command_of (verb ∷ rest) =
-    if bytes_eq verb (codes "bind") then bind_of rest
+    if bytes_eq verb (codes "as") then as_of rest
+    else if bytes_eq verb (codes "bind") then bind_of rest
     else if bytes_eq verb (codes "code") then code_of rest
     else if bytes_eq verb (codes "run") then run_of rest
     else if bytes_eq verb (codes "show") then show_of rest

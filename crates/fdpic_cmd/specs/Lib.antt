@@ -1,4 +1,5 @@
 pub mod Answers
+pub mod Assemble
 pub mod Bind
 pub mod Calls
 pub mod Code

@@ -7,11 +7,13 @@ use Rattle.elf_model.specs.declared.refusal.ElfRefusal.{ElfRefusal}
 use Rattle.fdpic_cmd.specs.declared.status.Status.{Status}
 use Rattle.fdpic_cmd.specs.declared.status.Status.TheVariants.{Done, Memory, Words, StoreFault, SinkFault, Refused, Stopped}
 use Rattle.fdpic_cmd.specs.declared.status.Refusal.{Refusal}
-use Rattle.fdpic_cmd.specs.declared.status.Refusal.TheVariants.{Elf as NoObject, NoFile as NoSuchFile, TooLong as FileTooLong, Job, Load}
+use Rattle.fdpic_cmd.specs.declared.status.Refusal.TheVariants.{Elf as NoObject, NoFile as NoSuchFile, TooLong as FileTooLong, Job, Asm, OutTooLong, Load}
 use Rattle.load_model.specs.declared.error.LoadRefusal.{LoadRefusal}
 use Rattle.load_model.specs.declared.error.LoadRefusal.TheVariants.{NotBuilt, Elf, NoFile, TooLong, TooManyModules, Unresolved, NotCode, DescriptorsFull, NoRoom, BadAddress}
 use Rattle.job_text.specs.declared.refusal.JobKind.{JobKind}
 use Rattle.job_text.specs.declared.refusal.JobKind.TheVariants.{First, Word, Form, Range, Twice, TooMany as TooManyLines, NoProgram, Small}
+use Rattle.a32_text.specs.declared.refusal.AsmKind.{AsmKind}
+use Rattle.a32_text.specs.declared.refusal.AsmKind.TheVariants as asm
 use Rattle.fd_base.specs.Fields.{decimal_field, hex_field, name_field}
 
 -- the word of a kind
@@ -67,12 +69,28 @@ job_word TooManyLines = codes "TooMany"
 job_word NoProgram = codes "NoProgram"
 job_word Small = codes "Small"
 
+-- the word of a kind of assemblies' refusals
+abbrev pub asm_word : AsmKind → List ℕ
+asm_word asm.Mnemonic = codes "Mnemonic"
+asm_word asm.Operand = codes "Operand"
+asm_word asm.Range = codes "Range"
+asm_word asm.Directive = codes "Directive"
+asm_word asm.LabelTwice = codes "LabelTwice"
+asm_word asm.NoLabel = codes "NoLabel"
+asm_word asm.LineLong = codes "LineLong"
+
+-- what is wrong with a line of a text
+abbrev pub line_text : List ℕ → List ℕ → ℕ → List ℕ
+line_text word kind line = word ++ kind ++ codes " line " ++ decimal line
+
 -- what is said of a refusal
 unfoldable pub refusal_text : Refusal → List ℕ
 refusal_text (NoObject name e) = shown name ++ codes " elf " ++ test_text e
 refusal_text (NoSuchFile name) = codes "no file " ++ shown name
 refusal_text (FileTooLong name) = codes "too long " ++ shown name
-refusal_text (Job line kind) = codes "job " ++ job_word kind ++ codes " line " ++ decimal line
+refusal_text (Job line kind) = line_text (codes "job ") (job_word kind) line
+refusal_text (Asm r) = line_text (codes "asm ") (asm_word r.kind) r.line
+refusal_text (OutTooLong n) = codes "output too long" ++ decimal_field n
 refusal_text (Load r) = codes "load " ++ load_text r
 
 -- what is said of a status

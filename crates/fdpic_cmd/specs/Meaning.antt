@@ -1,9 +1,10 @@
 -- What each command means.
-use Rattle.std.specs.Prelude.{ℕ, List, Option, None, Bool, true, false}
+use Rattle.std.specs.Prelude.{ℕ, List, Option, Some, None, Bool, true, false}
 use Rattle.fd_base.specs.Fetched.{Files}
 use Rattle.fdpic_cmd.specs.declared.command.Command.{Command}
-use Rattle.fdpic_cmd.specs.declared.command.Command.TheVariants.{Bind, BindJob, Code, Run, Show}
+use Rattle.fdpic_cmd.specs.declared.command.Command.TheVariants.{As, Bind, BindJob, Code, Run, Show}
 use Rattle.fdpic_cmd.specs.Outcome.{Outcome}
+use Rattle.fdpic_cmd.specs.Assemble.{AsMeans}
 use Rattle.fdpic_cmd.specs.Bind.{BindMeans}
 use Rattle.fdpic_cmd.specs.Jobs.{BindJobMeans}
 use Rattle.fdpic_cmd.specs.Run.{RunMeans}
@@ -11,6 +12,7 @@ use Rattle.fdpic_cmd.specs.Show.{CodeMeans, ShowMeans}
 
 -- Over these files the command comes to this outcome, where nothing outside fails.
 abbrev pub Means : Command → Files → Outcome → Type 0
+Means (As out input) = AsMeans out input
 Means (Bind file text data') = BindMeans file text data'
 Means (BindJob file) = BindJobMeans file
 Means (Code file) = CodeMeans file
@@ -19,6 +21,7 @@ Means (Show file) = ShowMeans file
 
 -- the file that a command may change
 abbrev pub target : Command → Option (List ℕ)
+target (As out input) = Some out
 target (Bind file text data') = None
 target (BindJob file) = None
 target (Code file) = None
@@ -27,6 +30,7 @@ target (Show file) = None
 
 -- whether a command writes its text by one put, when nothing else outside is left to do
 abbrev pub is_at_once : Command → Bool
+is_at_once (As out input) = true
 is_at_once (Bind file text data') = true
 is_at_once (BindJob file) = true
 is_at_once (Code file) = true

@@ -1,5 +1,5 @@
 -- What a command comes to where nothing outside fails.
-use Rattle.std.specs.Prelude.{ℕ, List, [], Option, None}
+use Rattle.std.specs.Prelude.{ℕ, List, [], Option, Some, None}
 use Rattle.fdpic_cmd.specs.declared.status.Status.{Status}
 use Rattle.fdpic_cmd.specs.declared.status.Status.TheVariants.{Done, Refused}
 use Rattle.fdpic_cmd.specs.declared.status.Refusal.{Refusal}
@@ -18,6 +18,10 @@ pub record Outcome : Type 0 where
 -- the command is done, and its text is written
 abbrev pub writes : List ℕ → Outcome
 writes text = record { status = Done; text = text; output = None }
+
+-- the command is done, and its file is put
+abbrev pub puts : List ℕ → List ℕ → Outcome
+puts name bytes = record { status = Done; text = []; output = Some (record { name = name; bytes = bytes }) }
 
 -- the command is refused, and nothing is written
 abbrev pub refuses : Refusal → Outcome

@@ -11,6 +11,8 @@ use std::alloc::{AllocError, Global};
 /// A command with its words.
 #[derive(Drop)]
 pub enum Command {
+    /// `as OUT IN`: assembles the text in file IN, and puts its relocatable file as OUT.
+    As { out: Name, input: Name },
     /// `bind F TEXT DATA`: loads the program in file F, with its first two segments placed at these addresses,
     /// and prints the slots of its process.
     Bind { file: Name, text: u32, data: u32 },
@@ -36,6 +38,26 @@ fn name_of(alloc: Global, word: &[u8]) -> Result<Option<Name>, Memory>
         Err(NameErr::TooLong) => Ok(None),
         Err(NameErr::Zero(_)) => Ok(None),
     }
+}
+
+/// `as OUT IN`, by its two words.
+fn as_files_of(alloc: Global, out: &[u8], input: &[u8]) -> Result<Option<Command>, Memory>
+    ensures { IfOk result (λ command. command ≡ forms.as_with (forms.name_of out.now) (forms.name_of input.now)) }
+{
+    match (name_of(alloc, out)?, name_of(alloc, input)?) {
+        (Some(out), Some(input)) => Ok(Some(Command::As { out, input })),
+        _ => Ok(None),
+    }
+}
+
+/// `as OUT IN`, by the words behind `as`.
+fn as_of(alloc: Global, words: &[Bytes]) -> Result<Option<Command>, Memory>
+    ensures { IfOk result (λ command. command ≡ forms.as_of words.now) }
+{
+    let [out, input] = words else {
+        return Ok(None);
+    };
+    as_files_of(alloc, out.as_slice(), input.as_slice())
 }
 
 /// `bind F TEXT DATA`, by its three words.
@@ -123,7 +145,9 @@ pub fn command_of(alloc: Global, words: &[Bytes]) -> Result<Option<Command>, Mem
     let [verb, rest @ ..] = words else {
         return Ok(None);
     };
-    if verb.as_slice() == b"bind".as_slice() {
+    if verb.as_slice() == b"as".as_slice() {
+        as_of(alloc, rest)
+    } else if verb.as_slice() == b"bind".as_slice() {
         bind_of(alloc, rest)
     } else if verb.as_slice() == b"code".as_slice() {
         code_of(alloc, rest)

@@ -8,18 +8,19 @@ ghost use Rattle.fdpic_cmd.specs.Ended.{kind_of, own, outside, Ends, Says, Write
 ghost use Rattle.fdpic_cmd.specs.Calls.{RanWithCalls};
 ghost use Rattle.fdpic_cmd.specs.Meaning.{Means, target, is_at_once};
 ghost use Rattle.fdpic_cmd.specs.Forms.{command_of};
-ghost use Rattle.fdpic_cmd.specs.Answers.{Answers, KeepsFiles, IsStatus, Reports, WordsMean, Yields, StaysUnless, at_once, IsEnded};
+ghost use Rattle.fdpic_cmd.specs.Answers.{Answers, KeepsFiles, ChangesIfDone, IsStatus, Reports, WordsMean, Yields, StaysUnless, at_once, IsEnded};
 ghost use Rattle.fdpic_cmd.specs.declared.command.Command.TheVariants.{Run};
 ghost use Rattle.fdpic_cmd.specs.declared.status.Refusal.{Refusal};
 ghost use Rattle.fdpic_cmd.specs.Outcome.{Outcome, refuses};
 
+use crate::assemble::put_assembled;
 use crate::bind::bind;
 use crate::command::{Command, command_of};
 use crate::job::bind_job;
 use crate::line::line;
 use crate::run::run_job;
 use crate::show::{code, show};
-use crate::status::{Failure, Status, failed};
+use crate::status::{Failure, Status, failed, put_status};
 use fd_base::{Bytes, Sink, SinkErr, Store};
 use std::alloc::Global;
 
@@ -49,7 +50,7 @@ fn say<O: Sink>(out: &mut O, text: Result<Bytes, Failure>) -> Status
 }
 
 /// Does a command, and writes its text or puts its file.
-#[tactic(auto, using(crate::proofs::CommandEnds::said))]
+#[tactic(auto, using(crate::proofs::CommandEnds::said, crate::proofs::CommandEnds::has_put, crate::proofs::CommandEnds::changed_by_put, crate::proofs::ClaimParts::all_stay))]
 fn perform<S: Store, O: Sink>(
     alloc: Global,
     command: &Command,
@@ -61,10 +62,15 @@ fn perform<S: Store, O: Sink>(
         Ends (is_at_once command.now) (Means command.now) old new result }
     ensures stays { result ≡ Status.StoreFault → O.bytes out.new ≡ O.bytes out.old }
     ensures files { KeepsOthers (target command.now) (S.files store.old) (S.files store.new) }
+    ensures unchanged { ChangesIfDone result (S.files store.old) (S.files store.new) (S.faults store.old) (S.faults store.new) }
     ensures store_count { S.faults store.old ≤ S.faults store.new }
     ensures out_count { O.faults out.old ≤ O.faults out.new }
 {
     match command {
+        Command::As { out: name, input } => {
+            let done = put_assembled(alloc, store, name, input);
+            put_status(done)
+        }
         Command::Bind { file, text, data } => {
             let text = bind(alloc, store, file, *text, *data);
             say(out, text)
@@ -86,7 +92,7 @@ fn perform<S: Store, O: Sink>(
 }
 
 /// Does what the words say.
-#[tactic(auto, using(crate::proofs::ClaimParts::nothing_done, crate::proofs::ClaimParts::nothing_kept))]
+#[tactic(auto, using(crate::proofs::ClaimParts::nothing_done, crate::proofs::ClaimParts::nothing_kept, crate::proofs::ClaimParts::all_stay))]
 fn answer<S: Store, O: Sink>(alloc: Global, words: &[Bytes], store: &mut S, out: &mut O) -> Status
     ensures answer { let old = outside (S.files store.old) (S.faults store.old) (O.bytes out.old) (O.faults out.old) in
         let new = outside (S.files store.new) (S.faults store.new) (O.bytes out.new) (O.faults out.new) in
@@ -94,6 +100,7 @@ fn answer<S: Store, O: Sink>(alloc: Global, words: &[Bytes], store: &mut S, out:
     ensures untouched { command_of words.now ≡ None → (store.new ≡ store.old) × (out.new ≡ out.old) }
     ensures stays { result ≡ Status.StoreFault → O.bytes out.new ≡ O.bytes out.old }
     ensures files { KeepsFiles (command_of words.now) (S.files store.old) (S.files store.new) }
+    ensures unchanged { ChangesIfDone result (S.files store.old) (S.files store.new) (S.faults store.old) (S.faults store.new) }
     ensures store_count { S.faults store.old ≤ S.faults store.new }
     ensures out_count { O.faults out.old ≤ O.faults out.new }
 {
@@ -109,6 +116,7 @@ fn answer<S: Store, O: Sink>(alloc: Global, words: &[Bytes], store: &mut S, out:
 fn report<E: Sink>(alloc: Global, status: Status, err: &mut E) -> Status
     ensures line { Reports (E.bytes err.old) (E.bytes err.new) (E.faults err.old) (E.faults err.new) result }
     ensures status { IsStatus result status }
+    ensures done { status ≡ Status.Done → result ≡ Status.Done }
     ensures count { E.faults err.old ≤ E.faults err.new }
 {
     if let Status::Done = status {
@@ -163,8 +171,11 @@ pub fn top<S: Store, O: Sink, E: Sink>(
     ensures stays { result ≡ Status.StoreFault → O.bytes out.new ≡ O.bytes out.old }
     // err grew by the line of the status.
     ensures line { Reports (E.bytes err.old) (E.bytes err.new) (E.faults err.old) (E.faults err.new) result }
-    // No file changes but the one that the words name as an output.
+    // No file changes but the one that the words name as an output. With a refusal that stays too; and it changes only where
+    // the command is done, or a put failed, which was counted.
     ensures files { KeepsFiles (command_of words.now) (S.files store.old) (S.files store.new) }
+    ensures refused_keeps { (r : Refusal) → result ≡ Status.Refused r → S.files store.new ≡ S.files store.old }
+    ensures unchanged { ChangesIfDone result (S.files store.old) (S.files store.new) (S.faults store.old) (S.faults store.new) }
     // Where nothing speaks against it, the command is done, or memory was wanted.
     ensures complete { (told : Files) → S.files store.old ≡ Some told → IsSome (command_of words.now)
         → ((r : Refusal) → ¬ WordsMean words.now told (refuses r))

@@ -2,6 +2,7 @@
 //! outcome.
 #![tactic(auto)]
 
+mod assemble;
 mod bind;
 mod code;
 mod command;

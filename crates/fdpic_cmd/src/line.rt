@@ -6,9 +6,11 @@ ghost use Rattle.fd_base.specs.Fields.{decimal_field, name_field};
 ghost use Rattle.fdpic_cmd.specs.Lines as spec;
 
 use crate::status::{Refusal, Status};
+use a32_asm::AsmKind;
 use elf_model::{ElfKind, ElfRefusal};
 use fd_base::{
-    Bytes, Memory, Name, put_dec, put_decimal_field, put_hex_field, put_name_field, put_shown,
+    Bytes, Memory, Name, put_dec, put_decimal_field, put_hex_field, put_index_field,
+    put_name_field, put_shown,
 };
 use job_text::JobKind;
 use load_model::LoadRefusal;
@@ -68,6 +70,39 @@ fn job_word(kind: JobKind) -> &'static [u8]
         JobKind::NoProgram => b"NoProgram",
         JobKind::Small => b"Small",
     }
+}
+
+/// The word of a kind of assemblies' refusals.
+fn asm_word(kind: AsmKind) -> &'static [u8]
+    ensures { result.now ≡ spec.asm_word kind }
+{
+    match kind {
+        AsmKind::Mnemonic => b"Mnemonic",
+        AsmKind::Operand => b"Operand",
+        AsmKind::Range => b"Range",
+        AsmKind::Directive => b"Directive",
+        AsmKind::LabelTwice => b"LabelTwice",
+        AsmKind::NoLabel => b"NoLabel",
+        AsmKind::LineLong => b"LineLong",
+    }
+}
+
+/// Puts what is wrong with a line of a text.
+fn put_line(out: &mut Bytes, word: &[u8], kind: &[u8], line: u32) -> Result<(), Memory>
+    ensures { OnOk result (out.new ≡ out.old ++ spec.line_text word.now kind.now line) }
+{
+    out.extend_from_slice(word)?;
+    out.extend_from_slice(kind)?;
+    out.extend_from_slice(b" line ")?;
+    put_dec(out, line)
+}
+
+/// Puts that a file would have so many bytes.
+fn put_too_long(out: &mut Bytes, n: u64) -> Result<(), Memory>
+    ensures { OnOk result (out.new ≡ out.old ++ (codes "output too long" ++ decimal_field n)) }
+{
+    out.extend_from_slice(b"output too long")?;
+    put_index_field(out, n as usize)
 }
 
 /// Puts a word and a name.
@@ -134,12 +169,9 @@ fn put_refusal(out: &mut Bytes, refusal: &Refusal) -> Result<(), Memory>
         }
         Refusal::NoFile(name) => put_named(out, b"no file ", name),
         Refusal::TooLong(name) => put_named(out, b"too long ", name),
-        Refusal::Job(line, kind) => {
-            out.extend_from_slice(b"job ")?;
-            out.extend_from_slice(job_word(*kind))?;
-            out.extend_from_slice(b" line ")?;
-            put_dec(out, *line)
-        }
+        Refusal::Job(line, kind) => put_line(out, b"job ", job_word(*kind), *line),
+        Refusal::Asm(refusal) => put_line(out, b"asm ", asm_word(refusal.kind), refusal.line),
+        Refusal::OutTooLong(n) => put_too_long(out, *n),
         Refusal::Load(refusal) => {
             out.extend_from_slice(b"load ")?;
             put_load(out, refusal)

@@ -3,6 +3,7 @@
 ghost use Rattle.std.specs.Prelude.{◌≡◌};
 ghost use Rattle.fdpic_cmd.specs.Ended as ended;
 
+use a32_asm::AsmRefusal;
 use elf_model::ElfRefusal;
 use fd_base::Name;
 use job_text::JobKind;
@@ -21,6 +22,10 @@ pub enum Refusal {
     TooLong(Name),
     /// The file that the words name as a job's is none: the first line that is wrong, and what is wrong with it.
     Job(u32, JobKind),
+    /// The text that is to be assembled is refused: the first line that is wrong, and what is wrong with it.
+    Asm(AsmRefusal),
+    /// The file that is to be put would have so many bytes, which are more than `MAX_FILE_BYTES`.
+    OutTooLong(u64),
     /// Loading is refused, for another cause than these.
     Load(LoadRefusal),
 }
@@ -70,6 +75,16 @@ pub enum Failure {
     Refused(Refusal),
     StoreFault,
     Memory,
+}
+
+/// The status of a command that puts a file.
+pub fn put_status(done: Result<(), Failure>) -> Status
+    ensures { result ≡ ended.put_status done }
+{
+    match done {
+        Ok(()) => Status::Done,
+        Err(failure) => failed(failure),
+    }
 }
 
 /// The status of a failure.

@@ -1,5 +1,6 @@
 //! The program by example.
 
+mod assemblies;
 mod objects;
 mod programs;
 mod runs;
@@ -511,6 +512,15 @@ fn faults_and_faulty_words(rt: HostRuntime) -> Result<(), Fail> {
         b"fdpic: words\n",
     )?;
     is_refused(&rt, alloc, Files::Objects, b"show", 2, b"fdpic: words\n")?;
+    is_refused(&rt, alloc, Files::Objects, b"as a.o", 2, b"fdpic: words\n")?;
+    is_refused(
+        &rt,
+        alloc,
+        Files::Objects,
+        b"as a.o none",
+        5,
+        b"fdpic: no file none\n",
+    )?;
     let case = Case {
         words: b"bind e.so 0x20000 0x80000",
         store_fails_at: 1,

@@ -18,7 +18,9 @@ use Rattle.run_model.specs.declared.thread.Turned.TheVariants as turned
 use Rattle.run_model.specs.Instructions.{Obeyed}
 use Rattle.run_model.specs.State.{State, lives, thread_at}
 use Rattle.run_model.specs.Turns.{Taken, finished, gone_as, left_by, turn_of, turned_at, with_calls}
+use Rattle.run_turn.specs.declared.lookups.Lookups.{Lookups}
 use Rattle.run_turn.specs.declared.settling.Settled.{Settled}
+use Rattle.run_turn.specs.parts.Lookups.{AreKnown}
 use Rattle.run_turn.specs.parts.QuietTurns.{quiet}
 use Rattle.run_turn.specs.parts.Remainder.{IsAt, Left, state_with}
 use Rattle.run_turn.specs.parts.StopLaws.{StopsKeep}
@@ -185,3 +187,8 @@ placed_at law old new p maps c keeps rest small same_p same_maps =
 pub placed_now : ConsistentArePlaced → (l : Loaded) (p : SymbolicProcess) (maps : List (List MapEntry)) → IsConsistent l → l.modules.plan.memory < 2 ^ 32 → p ≡ l.modules.process → maps ≡ l.modules.maps
     → ArePlaced p maps
 placed_now law l p maps c small same_p same_maps = rw (same_p, same_maps) (law l c small)
+
+-- what is known of a loader's modules is so where its memory changes
+pub known_on : (old new : Loaded) (known : Lookups) → new ≡ record old { memory = new.memory } → AreKnown old.modules.process old.modules.maps known
+    → AreKnown new.modules.process new.modules.maps known
+known_on old new known rest h = subst (λ (l : Loaded). AreKnown l.modules.process l.modules.maps known) (sym rest) h

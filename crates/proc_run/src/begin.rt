@@ -9,13 +9,14 @@ ghost use Rattle.run_model.specs.Start as spec;
 ghost use Rattle.run_model.specs.Turns.{entering};
 ghost use Rattle.proc_run.specs.BegunProcess.{thread_at_entry};
 ghost use Rattle.run_turn.specs.parts.CallsInProgress.{BeganInTurn};
+ghost use Rattle.run_turn.specs.parts.Lookups.{AreKnown};
 
 use a32_machine::Cpu;
 use fd_base::Memory;
 use load_model::{Live, MapEntries, PROCESS_END, SymbolicProcess};
 use placed_code::got_word;
 use run_model::{Call, Calls, Event, Thread};
-use run_turn::{Events, call_begun};
+use run_turn::{Events, Lookups, call_begun};
 use std::alloc::Global;
 
 // ---- events
@@ -98,13 +99,20 @@ fn first_cpu(got: u32, stack_end: u32, entry: u32) -> Cpu
 }
 
 /// The call that begins with these registers, if any.
-fn first_calls(process: &SymbolicProcess, maps: &[MapEntries], cpu: &Cpu) -> Calls
-    requires { ArePlaced process.now maps.now }
+fn first_calls(
+    lookups: &mut Lookups,
+    process: &SymbolicProcess,
+    maps: &[MapEntries],
+    cpu: &Cpu,
+) -> Calls
+    requires placed { ArePlaced process.now maps.now }
+    requires known { AreKnown process.now maps.now lookups.old }
     ensures calls { result ≡ option_to_list (call_begun process.now maps.now cpu.now) }
     ensures progress { BeganInTurn result }
+    ensures known { AreKnown process.entry.now maps.now lookups.new }
 {
     let mut calls = Calls::new();
-    if let Some(call) = call_begun(process, maps, cpu) {
+    if let Some(call) = call_begun(lookups, process, maps, cpu) {
         calls.push(call);
     }
     calls
@@ -112,18 +120,21 @@ fn first_calls(process: &SymbolicProcess, maps: &[MapEntries], cpu: &Cpu) -> Cal
 
 /// Thread 0 at the entry point of the program, with this end of its stack.
 pub(crate) fn first_thread(
+    lookups: &mut Lookups,
     process: &SymbolicProcess,
     maps: &[MapEntries],
     stack_end: u32,
     entry: u32,
 ) -> Thread
-    requires { ArePlaced process.now maps.now }
+    requires placed { ArePlaced process.now maps.now }
+    requires known { AreKnown process.now maps.now lookups.old }
     ensures thread { (l : Loaded) → l.modules.process ≡ process.now → l.modules.maps ≡ maps.now → l.modules.plan.memory ≡ stack_end
         → result ≡ thread_at_entry l entry }
     ensures calls { BeganInTurn result.calls }
+    ensures known { AreKnown process.entry.now maps.now lookups.new }
 {
     let cpu = first_cpu(got_word(process, maps, 0), stack_end, entry);
-    let calls = first_calls(process, maps, &cpu);
+    let calls = first_calls(lookups, process, maps, &cpu);
     Thread {
         cpu,
         refusal: 0,

@@ -11,14 +11,13 @@ ghost use Rattle.proc_run.specs.parts.ReadyProcess.{IsRunning};
 
 use crate::begin::{first_events, first_thread, threads_with};
 use crate::taking::{pass_turns, take_turn};
-use a32_machine::DecodedWords;
 use fd_base::{Memory, Sink, SinkErr, Store};
 use load_model::{LoadErr, LoadRefusal};
 use mod_load::{Loader, load_program};
 use placed_code::consistent_are_placed;
 use run_model::{Job, Thread, Turned};
 use run_report::put_report;
-use run_turn::{ClearPlaces, Events, Settled};
+use run_turn::{Events, Lookups, Settled};
 use std::alloc::Global;
 use std::marker::Model;
 
@@ -32,16 +31,14 @@ pub struct Process {
     limit: u32,
     /// Events that have no line yet: those before the first step.
     pending: Events,
-    /// Addresses at which no entry of the loaded modules is placed.
-    clear: ClearPlaces,
-    /// Words that have been decoded.
-    words: DecodedWords,
+    /// What has been looked up of the loaded modules.
+    lookups: Lookups,
 }
 
 impl Model for Process {
     ghost use Rattle.std.specs.Coded.{codes};
     ghost use Rattle.func_desc.specs.Functions.{addr_map_code};
-    ghost use Rattle.run_turn.specs.parts.ClearPlaces.{AreClear};
+    ghost use Rattle.run_turn.specs.parts.Lookups.{AreKnown};
     ghost use Rattle.proc_run.specs.RunningProcess.{Running};
 
     ghost Value = { Running };
@@ -54,7 +51,7 @@ impl Model for Process {
       pending = p.pending;
     } };
 
-    ghost invariant = { λ p. AreClear p.loader.loaded.modules.process p.loader.loaded.modules.maps p.clear };
+    ghost invariant = { λ p. AreKnown p.loader.loaded.modules.process p.loader.loaded.modules.maps p.lookups };
 }
 
 impl Process {
@@ -162,8 +159,7 @@ impl Process {
     {
         take_turn(
             self.alloc,
-            &mut self.clear,
-            &mut self.words,
+            &mut self.lookups,
             &mut self.loader,
             self.threads.as_mut_slice(),
             &mut self.steps,
@@ -184,8 +180,7 @@ impl Process {
     {
         pass_turns(
             self.alloc,
-            &mut self.clear,
-            &mut self.words,
+            &mut self.lookups,
             &mut self.loader,
             self.threads.as_mut_slice(),
             &mut self.steps,
@@ -254,11 +249,16 @@ fn begin(alloc: Global, job: &Job, loader: Loader, entry: u32) -> Result<Process
 {
     loader.whole();
     consistent_are_placed();
-    let thread = first_thread(loader.process(), loader.maps(), job.plan.memory, entry);
+    let mut lookups = Lookups::new(alloc)?;
+    let thread = first_thread(
+        &mut lookups,
+        loader.process(),
+        loader.maps(),
+        job.plan.memory,
+        entry,
+    );
     let pending = first_events(alloc, loader.process(), &thread)?;
     let threads = threads_with(alloc, job.plan.threads, thread)?;
-    let clear = ClearPlaces::new(alloc)?;
-    let words = DecodedWords::new(alloc)?;
     Ok(Process {
         alloc,
         loader,
@@ -266,8 +266,7 @@ fn begin(alloc: Global, job: &Job, loader: Loader, entry: u32) -> Result<Process
         steps: 0,
         limit: job.steps,
         pending,
-        clear,
-        words,
+        lookups,
     })
 }
 

@@ -5,7 +5,7 @@ ghost use Rattle.guest_mem.specs.parts.Kept.{Keeps};
 ghost use Rattle.load_map.specs.declared.entry.MapEntry.{MapEntry};
 ghost use Rattle.load_model.specs.declared.module.SymbolicProcess.{SymbolicProcess};
 ghost use Rattle.load_state.specs.Consistent.{IsConsistent};
-ghost use Rattle.run_turn.specs.parts.ClearPlaces.{AreClear};
+ghost use Rattle.run_turn.specs.parts.Lookups.{AreKnown};
 ghost use Rattle.run_model.specs.declared.thread.Thread.{Thread};
 ghost use Rattle.run_model.specs.State.{lives, thread_at};
 ghost use Rattle.run_model.specs.Turns.{turn_of};
@@ -14,22 +14,19 @@ ghost use Rattle.proc_run.specs.parts.TakenTurns.{HasPassedOn};
 ghost use Rattle.run_turn.specs.parts.CallsInProgress.{AreInProgress};
 ghost use Rattle.run_turn.specs.parts.Remainder.{state_with};
 
-use a32_machine::DecodedWords;
 use fd_base::Memory;
 use mod_load::Loader;
 use placed_code::consistent_are_placed;
 use run_model::{Stop, Thread, Turned};
 use run_turn::{
-    ClearPlaces, Events, Passed, PlacedModules, Settled, is_quiet, obey_on, settle, stopped,
-    stops_keep,
+    Events, Lookups, Passed, PlacedModules, Settled, is_quiet, obey_on, settle, stopped, stops_keep,
 };
 use std::alloc::Global;
 
 /// Lets a live thread obey instructions from its pc on, at most so many, up to one of which something may be told.
 fn obeyed_on(
     alloc: Global,
-    clear: &ClearPlaces,
-    words: &mut DecodedWords,
+    lookups: &mut Lookups,
     loader: &mut Loader,
     threads: &mut [Option<Thread>],
     t: u32,
@@ -37,14 +34,15 @@ fn obeyed_on(
 ) -> Result<Passed, Memory>
     requires lives { lives threads.old t ≡ true }
     requires calls { All AreInProgress threads.old }
-    ensures obeyed { (thread : Thread) (p : SymbolicProcess) (maps : List (List MapEntry)) → thread_at threads.old t ≡ Some thread → AreClear p maps clear.now
+    ensures obeyed { (thread : Thread) (p : SymbolicProcess) (maps : List (List MapEntry)) → thread_at threads.old t ≡ Some thread → AreKnown p maps lookups.old
         → IfOk result (HasPassedOn p maps most loader.old.loaded loader.new.loaded threads.old threads.new t thread) }
     ensures keeps { Keeps loader.old.loaded.memory loader.new.loaded.memory }
     ensures rest { loader.new.loaded ≡ record loader.old.loaded { memory = loader.new.loaded.memory } }
+    ensures known { (p : SymbolicProcess) (maps : List (List MapEntry)) → AreKnown p maps lookups.old → AreKnown p maps lookups.new }
     ensures calls { All AreInProgress threads.new }
 {
     match &mut threads[t as usize] {
-        Some(thread) => obey_on(alloc, clear, words, thread, loader.guest(), most),
+        Some(thread) => obey_on(alloc, lookups, thread, loader.guest(), most),
         None => unreachable!(),
     }
 }
@@ -53,8 +51,7 @@ fn obeyed_on(
 /// None where there is no such turn.
 pub(crate) fn pass_turns(
     alloc: Global,
-    clear: &mut ClearPlaces,
-    words: &mut DecodedWords,
+    lookups: &mut Lookups,
     loader: &mut Loader,
     threads: &mut [Option<Thread>],
     steps: &mut u32,
@@ -65,13 +62,13 @@ pub(crate) fn pass_turns(
     requires lives { lives threads.old t ≡ true }
     requires calls { All AreInProgress threads.old }
     requires consistent { IsConsistent loader.old.loaded }
-    requires clear { AreClear loader.old.loaded.modules.process loader.old.loaded.modules.maps clear.old }
+    requires known { AreKnown loader.old.loaded.modules.process loader.old.loaded.modules.maps lookups.old }
     requires some { 0 < left.old }
     ensures taken { IfOk result (λ r. Passes limit t r left.old left.new (state_with loader.old.loaded threads.old steps.old) (state_with loader.new.loaded threads.new steps.new)) }
     ensures consistent { OnOk result (IsConsistent loader.new.loaded) }
     ensures count { OnOk result (length threads.new ≡ length threads.old) }
     ensures calls { OnOk result (All AreInProgress threads.new) }
-    ensures clear { AreClear loader.new.loaded.modules.process loader.new.loaded.modules.maps clear.new }
+    ensures known { AreKnown loader.new.loaded.modules.process loader.new.loaded.modules.maps lookups.new }
 {
     if *steps >= limit {
         let last = stopped(alloc, *steps, t, Stop::Limit)?;
@@ -82,7 +79,7 @@ pub(crate) fn pass_turns(
     consistent_are_placed();
     stops_keep();
     let most = (*left).min(limit - *steps);
-    let passed = obeyed_on(alloc, clear, words, loader, threads, t, most)?;
+    let passed = obeyed_on(alloc, lookups, loader, threads, t, most)?;
     let Passed { quiet, last } = passed;
     *steps += quiet;
     *left -= quiet;
@@ -94,19 +91,18 @@ pub(crate) fn pass_turns(
         process: loader.process(),
         maps: loader.maps(),
     };
-    if is_quiet(&modules, clear, threads, t, &served) {
+    if is_quiet(&modules, lookups, threads, t, &served) {
         *steps += 1;
         return Ok(None);
     }
-    let settled = settle(alloc, &modules, threads, steps, t, served)?;
+    let settled = settle(alloc, lookups, &modules, threads, steps, t, served)?;
     Ok(Some(settled))
 }
 
 /// Takes a turn of a live thread.
 pub(crate) fn take_turn(
     alloc: Global,
-    clear: &mut ClearPlaces,
-    words: &mut DecodedWords,
+    lookups: &mut Lookups,
     loader: &mut Loader,
     threads: &mut [Option<Thread>],
     steps: &mut u32,
@@ -116,18 +112,16 @@ pub(crate) fn take_turn(
     requires lives { lives threads.old t ≡ true }
     requires calls { All AreInProgress threads.old }
     requires consistent { IsConsistent loader.old.loaded }
-    requires clear { AreClear loader.old.loaded.modules.process loader.old.loaded.modules.maps clear.old }
+    requires known { AreKnown loader.old.loaded.modules.process loader.old.loaded.modules.maps lookups.old }
     ensures taken { IfOk result (λ r. turn_of limit (state_with loader.old.loaded threads.old steps.old) t
         ≡ record { answer = r.answer; state = state_with loader.new.loaded threads.new steps.new; events = r.events }) }
     ensures consistent { OnOk result (IsConsistent loader.new.loaded) }
     ensures count { OnOk result (length threads.new ≡ length threads.old) }
     ensures calls { OnOk result (All AreInProgress threads.new) }
-    ensures clear { AreClear loader.new.loaded.modules.process loader.new.loaded.modules.maps clear.new }
+    ensures known { AreKnown loader.new.loaded.modules.process loader.new.loaded.modules.maps lookups.new }
 {
     let mut left = 1;
-    let passed = pass_turns(
-        alloc, clear, words, loader, threads, steps, limit, t, &mut left,
-    )?;
+    let passed = pass_turns(alloc, lookups, loader, threads, steps, limit, t, &mut left)?;
     match passed {
         Some(settled) => Ok(settled),
         None => Ok(Settled {

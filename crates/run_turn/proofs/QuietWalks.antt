@@ -1,22 +1,19 @@
 -- Walks of quiet steps.
-use Rattle.std.proofs.Common.{◌≡◌, ℕ, zero, suc, ◌≢◌, ◌<◌, ◌≤◌, Bool, true, false, List, [], ◌∷◌, Some, None, refl, ap, sym, subst, ◌∙◌, arith}
-use Rattle.std.specs.Prelude.{set}
+use Rattle.std.proofs.Common.{◌≡◌, ℕ, zero, suc, ◌+◌, ◌<◌, ◌≤◌, List, [], ◌∷◌, Option, Some, None, refl, ap, sym, subst, ◌∙◌, arith}
+use Rattle.std.specs.Prelude.{min, set}
 use Rattle.std.proofs.lemmas.List.{set-get_or}
 use Rattle.guest_mem.specs.Memory.{GuestMemory}
 use Rattle.a32_machine.specs.declared.cpu.Cpu.{Cpu}
 use Rattle.a32_machine.specs.declared.cpu.StepEnd.{StepEnd}
-use Rattle.a32_machine.specs.declared.cpu.StepEnd.TheVariants.{Next, Service}
+use Rattle.a32_machine.specs.declared.cpu.StepEnd.TheVariants.{Next, Service, Stop}
+use Rattle.a32_machine.specs.declared.cpu.StepStop.{StepStop}
 use Rattle.a32_machine.specs.Registers.{moved_on, pc_of, with_reg}
 use Rattle.a32_machine.specs.Step.{step_of}
 use Rattle.a32_machine.specs.Stepped.{Stepped, went_on}
 use Rattle.a32_machine.proofs.Framing.{services_keep}
 use Rattle.load_map.specs.declared.entry.MapEntry.{MapEntry}
 use Rattle.load_model.specs.declared.module.SymbolicProcess.{SymbolicProcess}
-use Rattle.run_model.specs.declared.service.Served.{Served}
-use Rattle.run_model.specs.declared.service.Served.TheVariants.{Went}
-use Rattle.run_model.specs.declared.thread.Thread.{Thread}
-use Rattle.run_model.specs.Instructions.{Obeyed, obeyed_after, obeyed_by}
-use Rattle.run_turn.specs.parts.QuietSteps.{GoQuietly, HasObeyedOn, HasWalked, IsWithin, Machine, WalksOn, machine_of, thread_on}
+use Rattle.run_turn.specs.parts.QuietSteps.{GoQuietly, HasWalked, IsWithin, Machine, WalksOn, machine_of}
 use Rattle.run_turn.proofs.ServiceSteps.{services_move_on}
 
 set_twice : (xs : List ℕ) (k x y : ℕ) → set (set xs k x) k y ≡ set xs k y
@@ -28,71 +25,63 @@ set_twice (z ∷ xs) (suc k) x y = ap (λ ys. z ∷ ys) (set_twice xs k x y)
 set_back : (cpu : Cpu) → with_reg (moved_on cpu) 15 (pc_of cpu) ≡ cpu
 set_back cpu = ap (λ (r : List ℕ). record cpu { r = r }) (set_twice cpu.r 15 _ (pc_of cpu) ∙ set-get_or cpu.r 15 0)
 
-module _ (cpu after : Cpu) (m later : GuestMemory) (e : StepEnd) (step : ◌≡◌ {A = Stepped} (record { end_ = e; cpu = after; memory = later }) (step_of cpu m)) where
-  pub has_gone_on : e ≡ Next → step_of cpu m ≡ went_on after later
-  has_gone_on next = sym step ∙ ap (λ (x : StepEnd). record { end_ = x; cpu = after; memory = later }) next
+abbrev stepped : StepEnd → Cpu → GuestMemory → Stepped
+stepped e cpu m = record { end_ = e; cpu = cpu; memory = m }
 
-  -- a service that is left for later
-  pub goes_back : (number : ℕ) → e ≡ Service number → machine_of (with_reg after 15 (pc_of cpu)) later ≡ machine_of cpu m
-  goes_back number asks =
+-- ---- how an instruction has ended
+
+module _ (cpu after : Cpu) (m later : GuestMemory) (e : StepEnd) (step : stepped e after later ≡ step_of cpu m) where
+  pub has_gone_on : e ≡ Next → WalksOn (Some Next) (machine_of cpu m) (machine_of after later)
+  has_gone_on next = sym step ∙ ap (λ (x : StepEnd). stepped x after later) next
+
+  pub has_asked : (number : ℕ) → e ≡ Service number → WalksOn (Some (Service number)) (machine_of cpu m) (machine_of (with_reg after 15 (pc_of cpu)) later)
+  has_asked number asks =
       let is : (step_of cpu m).end_ ≡ Service number = ap (λ (s : Stepped). s.end_) (sym step) ∙ asks in
       let moved : after ≡ moved_on cpu = ap (λ (s : Stepped). s.cpu) step ∙ services_move_on cpu m number is in
-      let kept : later ≡ m = ap (λ (s : Stepped). s.memory) step ∙ services_keep cpu m number is in
-      ap (λ (c : Cpu). machine_of (with_reg c 15 (pc_of cpu)) later) moved
-      ∙ ap (λ (c : Cpu). machine_of c later) (set_back cpu)
-      ∙ ap (λ (x : GuestMemory). machine_of cpu x) kept
+      let kept : later ≡ m = ap (λ (s : Stepped). s.memory) step ∙ services_keep cpu m number is in (
+        ap (λ (c : Cpu). machine_of (with_reg c 15 (pc_of cpu)) later) moved
+            ∙ ap (λ (c : Cpu). machine_of c later) (set_back cpu)
+            ∙ ap (λ (x : GuestMemory). machine_of cpu x) kept,
+        sym step
+            ∙ ap (λ (x : StepEnd). stepped x after later) asks
+            ∙ ap (λ (c : Cpu). stepped (Service number) c later) moved
+            ∙ ap (λ (x : GuestMemory). stepped (Service number) (moved_on cpu) x) kept,
+      )
 
--- ---- a walk, and what comes behind it
+  pub has_stopped : (why : StepStop) → e ≡ Stop why → (after ≡ cpu) × (later ≡ m) → WalksOn (Some (Stop why)) (machine_of cpu m) (machine_of after later)
+  has_stopped why stops same = (
+    ap (λ (c : Cpu). machine_of c later) same.0 ∙ ap (λ (x : GuestMemory). machine_of cpu x) same.1,
+    sym step
+        ∙ ap (λ (x : StepEnd). stepped x after later) stops
+        ∙ ap (λ (c : Cpu). stepped (Stop why) c later) same.0
+        ∙ ap (λ (x : GuestMemory). stepped (Stop why) cpu x) same.1,
+  )
 
-module _ (p : SymbolicProcess) (maps : List (List MapEntry)) (most : ℕ) (thread after : Thread) (m memory : GuestMemory) (n : ℕ) (went : Bool)
-    (walked : HasWalked p maps most (machine_of thread.cpu m) (machine_of after.cpu memory) (record { quiet = n; went = went })) (alone : 0 < n → thread.calls ≡ [])
-    (rest : after ≡ thread_on thread after.cpu) where
-  abbrev obeyed_with_code : ℕ → Obeyed
-  obeyed_with_code code = record { served = Went; cpu = after.cpu; refusal = code; memory = memory }
+-- ---- a walk that is cut
 
-  same_refusal : after.refusal ≡ thread.refusal
-  same_refusal = ap (λ (x : Thread). x.refusal) rest
+module _ (p : SymbolicProcess) (maps : List (List MapEntry)) (room most : ℕ) (below : room ≤ most) (old new : Machine) (n : ℕ) where
+  within_all : (last : Option StepEnd) → IsWithin last (min (room + 1) most) n → n ≤ room → IsWithin last most n
+  within_all None h le = omega arith
+  within_all (Some e) h le = omega arith
 
-  -- one more step has gone on
-  pub one_further : went ≡ true → HasObeyedOn p maps most thread m (record { quiet = n; last = Some Went }) after memory
-  one_further so =
-      let less : n < most = subst (λ (b : Bool). IsWithin b most n) so walked.within in
-      let step : step_of walked.mid.cpu walked.mid.memory ≡ went_on after.cpu memory = subst (λ (b : Bool). WalksOn b walked.mid (machine_of after.cpu memory)) so walked.last' in
+  pub whole : (last : Option StepEnd) → HasWalked p maps (min (room + 1) most) old new (record { quiet = n; last = last }) → n ≤ room
+      → HasWalked p maps most old new (record { quiet = n; last = last })
+  whole last walked le = record { mid = walked.mid; quiet' = walked.quiet'; last' = walked.last'; within = within_all last walked.within le }
+
+  last_of : (last : Option StepEnd) (mid : Machine) → GoQuietly p maps n old mid → WalksOn last mid new → IsWithin last (min (room + 1) most) n → room < n
+      → HasWalked p maps most old new (record { quiet = room; last = Some Next })
+  last_of None mid quiet on within more =
+      let is : n ≡ suc room = omega arith in
+      let steps : GoQuietly p maps (suc room) old mid = subst (λ (k : ℕ). GoQuietly p maps k old mid) is quiet in
       record {
-        mid = walked.mid;
-        quiet' = walked.quiet';
-        alone = alone;
-        last' = (
-          less,
-          ap (λ (code : ℕ). obeyed_with_code code) same_refusal
-              ∙ sym (ap (λ (s : Stepped). obeyed_after walked.mid.cpu thread.refusal s) step),
-        );
+        mid = steps.0;
+        quiet' = steps.1;
+        last' = subst (λ (x : Machine). step_of steps.0.cpu steps.0.memory ≡ went_on x.cpu x.memory) (sym on) steps.2.step;
+        within = omega arith;
       }
+  last_of (Some e) mid quiet on within more = absurd (omega arith)
 
-  stands : went ≡ false → machine_of after.cpu memory ≡ walked.mid
-  stands so = subst (λ (b : Bool). WalksOn b walked.mid (machine_of after.cpu memory)) so walked.last'
-
-  pub most_below : went ≡ false → n ≢ most → n < most
-  most_below so not_all =
-      let within : n ≤ most = subst (λ (b : Bool). IsWithin b most n) so walked.within in
-      omega arith
-
-  -- all steps that were asked for are quiet
-  pub all_walked : went ≡ false → n ≡ most → HasObeyedOn p maps most thread m (record { quiet = most; last = None }) after memory
-  all_walked so all = record {
-    mid = walked.mid;
-    quiet' = subst (λ (k : ℕ). GoQuietly p maps k (machine_of thread.cpu m) walked.mid) all walked.quiet';
-    alone = subst (λ (k : ℕ). 0 < k → thread.calls ≡ []) all alone;
-    last' = (refl, rest ∙ ap (λ (x : Machine). thread_on thread x.cpu) (stands so), ap (λ (x : Machine). x.memory) (stands so));
-  }
-
-  -- one more instruction is obeyed
-  pub one_behind : (served : Served) (later : Thread) (ended : GuestMemory) → went ≡ false → n < most
-      → record { served = served; cpu = later.cpu; refusal = later.refusal; memory = ended } ≡ obeyed_by after.cpu after.refusal memory
-      → HasObeyedOn p maps most thread m (record { quiet = n; last = Some served }) later ended
-  one_behind served later ended so less done = record {
-    mid = machine_of after.cpu memory;
-    quiet' = subst (λ (x : Machine). GoQuietly p maps n (machine_of thread.cpu m) x) (sym (stands so)) walked.quiet';
-    alone = alone;
-    last' = (less, done ∙ ap (λ (code : ℕ). obeyed_by after.cpu code memory) same_refusal);
-  }
+  -- the first of the steps behind those that there is room for is the last
+  pub cut_off : (last : Option StepEnd) → HasWalked p maps (min (room + 1) most) old new (record { quiet = n; last = last }) → room < n
+      → HasWalked p maps most old new (record { quiet = room; last = Some Next })
+  cut_off last walked more = last_of last walked.mid walked.quiet' walked.last' walked.within more

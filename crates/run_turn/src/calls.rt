@@ -6,8 +6,10 @@ ghost use Rattle.placed_code.specs.Places.{code_at};
 ghost use Rattle.placed_code.specs.parts.PlacedModules.{ArePlaced};
 ghost use Rattle.run_model.specs.Turns as spec;
 ghost use Rattle.run_turn.specs.parts.CallsInProgress.{BeganInTurn};
+ghost use Rattle.run_turn.specs.parts.Lookups.{AreKnown};
 
 use crate::begun::call_begun;
+use crate::lookups::Lookups;
 use crate::placed::{PlacedModules, Step};
 use elf_model::Func;
 use fd_base::{Memory, Seq};
@@ -80,21 +82,24 @@ fn advance(
 /// Moves the calls of a thread on after a step of it: those that arrive have their events, and so has the one that begins
 /// where the thread stands now.
 pub fn follow(
+    lookups: &mut Lookups,
     modules: &PlacedModules,
     done: Step,
     thread: &mut Thread,
     events: &mut Events,
 ) -> Result<(), Memory>
     requires placed { ArePlaced modules.now.process.now modules.now.maps.now }
+    requires known { AreKnown modules.now.process.now modules.now.maps.now lookups.old }
     requires calls { BeganInTurn thread.old.calls }
     ensures thread { OnOk result (thread.new ≡ spec.with_calls modules.entry.now.process.now modules.entry.now.maps.now thread.old) }
     ensures events { OnOk result (events.new ≡ events.old
         ++ spec.call_events modules.entry.now.process.now modules.entry.now.maps.now done.step done.thread thread.old) }
     ensures calls { OnOk result (BeganInTurn thread.new.calls) }
+    ensures known { AreKnown modules.entry.now.process.now modules.entry.now.maps.now lookups.new }
 {
     let pc = thread.cpu.r[15];
     advance(modules, done, pc, &mut thread.calls, events)?;
-    if let Some(call) = call_begun(modules.process, modules.maps, &thread.cpu) {
+    if let Some(call) = call_begun(lookups, modules.process, modules.maps, &thread.cpu) {
         events.push(Event::Enter {
             step: done.step,
             thread: done.thread,

@@ -1,12 +1,12 @@
 //! One instruction of a thread.
 
-ghost use Rattle.std.specs.Prelude.{◌≡◌, IfOk};
-ghost use Rattle.guest_mem.specs.parts.Kept.{Keeps};
+ghost use Rattle.std.specs.Prelude.{◌≡◌, Some, IfOk};
 ghost use Rattle.run_model.specs.Instructions as spec;
 ghost use Rattle.run_model.specs.Services.{service_of};
+ghost use Rattle.run_turn.specs.parts.QuietSteps.{Machine, WalksOn, machine_of};
 
 use crate::serve;
-use a32_machine::{Cpu, StepEnd, StepStop, step};
+use a32_machine::{Cpu, StepEnd, StepStop};
 use fd_base::Memory;
 use guest_mem::Guest;
 use run_model::{Served, Stop, Thread};
@@ -43,18 +43,26 @@ fn attend(
     Ok(served)
 }
 
-/// Obeys the instruction at a thread's pc, and does the service that it asks for. Where it stops the thread stays.
-/// Without memory for the service the instruction may be done.
-pub fn obey(alloc: Global, thread: &mut Thread, guest: &mut Guest) -> Result<Served, Memory>
-    ensures done { IfOk result (λ served. record { served = served; cpu = thread.new.cpu; refusal = thread.new.refusal; memory = guest.new }
-        ≡ spec.obeyed_by thread.old.cpu thread.old.refusal guest.old) }
+/// What an instruction that has ended so comes to, with the service that it asks for. One that calls the supervisor or stops has
+/// left the thread before it.
+pub(crate) fn come_to(
+    alloc: Global,
+    end: StepEnd,
+    thread: &mut Thread,
+    guest: &Guest,
+) -> Result<Served, Memory>
+    ensures done { (before : Machine) → WalksOn (Some end) before (machine_of thread.old.cpu guest.now)
+        → IfOk result (λ served. record { served = served; cpu = thread.new.cpu; refusal = thread.new.refusal; memory = guest.now }
+        ≡ spec.obeyed_by before.cpu thread.old.refusal before.memory) }
     ensures calls { thread.new.calls ≡ thread.old.calls }
-    ensures keeps { Keeps guest.old guest.new }
 {
-    let before = thread.cpu;
-    match step(&mut thread.cpu, guest) {
+    match end {
         StepEnd::Next => Ok(Served::Went),
-        StepEnd::Service(number) => attend(alloc, number, before, thread, guest),
+        StepEnd::Service(number) => {
+            let before = thread.cpu;
+            thread.cpu.r[15] = thread.cpu.r[15].wrapping_add(4);
+            attend(alloc, number, before, thread, guest)
+        }
         StepEnd::Stop(why) => Ok(Served::Stopped(stop_by(why))),
     }
 }

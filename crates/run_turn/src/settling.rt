@@ -9,9 +9,11 @@ ghost use Rattle.run_model.specs.declared.thread.Turned.TheVariants as turned;
 ghost use Rattle.run_model.specs.State.{some_lives, thread_at};
 ghost use Rattle.run_model.specs.Turns as spec;
 ghost use Rattle.run_turn.specs.parts.CallsInProgress.{AreInProgress};
+ghost use Rattle.run_turn.specs.parts.Lookups.{AreKnown};
 ghost use Rattle.run_turn.specs.parts.Remainder.{IsAt, Left, state_with};
 
 use crate::calls::{Events, follow};
+use crate::lookups::Lookups;
 use crate::placed::{PlacedModules, Step};
 use fd_base::{Bytes, Memory};
 use run_model::{Event, Served, Stop, Thread, Turned};
@@ -32,12 +34,14 @@ fn some_lives(threads: &[Option<Thread>]) -> bool
 
 /// Moves the calls of a thread on, if it lives.
 fn follow_at(
+    lookups: &mut Lookups,
     modules: &PlacedModules,
     done: Step,
     threads: &mut [Option<Thread>],
     events: &mut Events,
 ) -> Result<(), Memory>
     requires placed { ArePlaced modules.now.process.now modules.now.maps.now }
+    requires known { AreKnown modules.now.process.now modules.now.maps.now lookups.old }
     requires calls { All AreInProgress threads.old }
     requires place { done.thread < length threads.old }
     ensures threads { (thread : Thread) → thread_at threads.old done.thread ≡ Some thread
@@ -45,15 +49,17 @@ fn follow_at(
     ensures events { (thread : Thread) → thread_at threads.old done.thread ≡ Some thread
         → OnOk result (events.new ≡ events.old ++ spec.call_events modules.entry.now.process.now modules.entry.now.maps.now done.step done.thread thread) }
     ensures calls { OnOk result (All AreInProgress threads.new) }
+    ensures known { AreKnown modules.entry.now.process.now modules.entry.now.maps.now lookups.new }
 {
     match &mut threads[done.thread as usize] {
-        Some(thread) => follow(modules, done, thread, events),
+        Some(thread) => follow(lookups, modules, done, thread, events),
         None => Ok(()),
     }
 }
 
 /// After a step of a thread that goes on, with this answer and these events of its own.
 fn went(
+    lookups: &mut Lookups,
     modules: &PlacedModules,
     threads: &mut [Option<Thread>],
     steps: &mut u32,
@@ -61,12 +67,14 @@ fn went(
     own: Settled,
 ) -> Result<Settled, Memory>
     requires placed { ArePlaced modules.now.process.now modules.now.maps.now }
+    requires known { AreKnown modules.now.process.now modules.now.maps.now lookups.old }
     requires calls { All AreInProgress threads.old }
     requires place { t < length threads.old }
     requires small { steps.old + 1 < 2 ^ 32 }
     ensures taken { (l : Loaded) (thread : Thread) → IsAt l modules.entry.now.process.now modules.entry.now.maps.now threads.old t thread
         → IfOk result (λ r. Left l threads.new steps.new r.answer r.events (spec.went (state_with l threads.old steps.old) t l thread own.events own.answer)) }
     ensures calls { OnOk result (All AreInProgress threads.new) }
+    ensures known { AreKnown modules.entry.now.process.now modules.entry.now.maps.now lookups.new }
 {
     let Settled { answer, mut events } = own;
     *steps += 1;
@@ -74,7 +82,7 @@ fn went(
         step: *steps,
         thread: t,
     };
-    follow_at(modules, done, threads, &mut events)?;
+    follow_at(lookups, modules, done, threads, &mut events)?;
     Ok(Settled { answer, events })
 }
 
@@ -184,6 +192,7 @@ pub fn stopped(alloc: Global, steps: u32, thread: u32, stop: Stop) -> Result<Set
 /// Does to the threads and the journal what the last instruction of thread `t` came to.
 pub fn settle(
     alloc: Global,
+    lookups: &mut Lookups,
     modules: &PlacedModules,
     threads: &mut [Option<Thread>],
     steps: &mut u32,
@@ -191,12 +200,14 @@ pub fn settle(
     served: Served,
 ) -> Result<Settled, Memory>
     requires placed { ArePlaced modules.now.process.now modules.now.maps.now }
+    requires known { AreKnown modules.now.process.now modules.now.maps.now lookups.old }
     requires calls { All AreInProgress threads.old }
     requires place { t < length threads.old }
     requires small { steps.old + 1 < 2 ^ 32 }
     ensures taken { (l : Loaded) (thread : Thread) → IsAt l modules.entry.now.process.now modules.entry.now.maps.now threads.old t thread
         → IfOk result (λ r. Left l threads.new steps.new r.answer r.events (spec.gone_as (state_with l threads.old steps.old) t l thread served)) }
     ensures calls { OnOk result (All AreInProgress threads.new) }
+    ensures known { AreKnown modules.entry.now.process.now modules.entry.now.maps.now lookups.new }
 {
     match served {
         Served::Went => {
@@ -204,18 +215,18 @@ pub fn settle(
                 answer: Turned::Next,
                 events: Events::new(alloc),
             };
-            went(modules, threads, steps, t, own)
+            went(lookups, modules, threads, steps, t, own)
         }
         Served::Yielded => {
             let own = Settled {
                 answer: Turned::Yield,
                 events: Events::new(alloc),
             };
-            went(modules, threads, steps, t, own)
+            went(lookups, modules, threads, steps, t, own)
         }
         Served::Wrote(bytes) => {
             let own = wrote(alloc, *steps + 1, t, bytes)?;
-            went(modules, threads, steps, t, own)
+            went(lookups, modules, threads, steps, t, own)
         }
         Served::Finished(value) => finished(alloc, threads, steps, t, value),
         Served::Exited(value) => exited(alloc, threads, steps, t, value),

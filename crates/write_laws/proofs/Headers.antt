@@ -1,19 +1,17 @@
 -- The ELF header and the section headers, read from their words.
-use Rattle.std.proofs.Common.{◌≡◌, ℕ, ◌+◌, ◌^◌, ◌<◌, false, List, [], ◌∷◌, ◌++◌, length, get_or, map, All, refl, arith, None}
+use Rattle.std.proofs.Common.{◌≡◌, ℕ, ◌+◌, ◌^◌, ◌<◌, true, false, List, [], ◌∷◌, ◌++◌, length, get_or, map, All, refl, arith, None}
 use Rattle.std.specs.Prelude.{slice_index, nat_lt}
 use Rattle.std.proofs.lemmas.Bool.{le-ltb}
 use Rattle.std.proofs.lemmas.List.Elements.{All-head, All-tail}
 use Rattle.fd_base.specs.Words.{word_in, word_bytes}
-use Rattle.elf_model.specs.declared.constants.TheConstants.{SHDR_SIZE, EHDR_SIZE}
+use Rattle.elf_model.specs.declared.constants.TheConstants.{SHDR_SIZE, PHDR_SIZE, EHDR_SIZE}
 use Rattle.elf_model.specs.declared.table.SectionHeader.{SectionHeader}
 use Rattle.elf_model.specs.Test.{first_failing, each_below}
-use Rattle.elf_model.specs.Header.{e_type, e_machine, e_version, e_shoff, e_flags, e_shentsize, e_shnum, e_shstrndx, size_tests, magic_tests, abi_tests, ident_tests, machine_tests, type_tests, file_tests}
+use Rattle.elf_model.specs.Header.{e_type, e_machine, e_version, e_entry, e_phoff, e_shoff, e_flags, e_phentsize, e_phnum, e_shentsize, e_shnum, e_shstrndx, is_one_of, size_tests, magic_tests, abi_tests, ident_tests, machine_tests, type_tests, file_tests}
 use Rattle.elf_model.specs.Sections.{section_offset, section_header}
-use Rattle.elf_model.specs.Relocatable.{relocatable_abis, relocatable_types}
 use Rattle.elf_model.proofs.Passing.{both}
-use Rattle.elf_write.specs.declared.rel_layout.RelLayout.{RelLayout}
+use Rattle.elf_write.specs.declared.header.FileHeader.{FileHeader}
 use Rattle.elf_write.specs.Words.{header_row, section_row, table_bytes}
-use Rattle.elf_write.specs.RelFile.{file_header}
 use Rattle.write_laws.proofs.Holding.{Holds, front, behind_at, byte_held, words_held, row_held, halves_held, length-words}
 use Rattle.write_laws.proofs.Listing.{Lists}
 
@@ -59,39 +57,48 @@ headers_listed bytes i (h ∷ hs) fit held =
 
 -- ---- the ELF header
 
-module _ (bytes : List ℕ) (l : RelLayout) (held : Holds bytes 0 (word_bytes (header_row (file_header l)))) where
-  row : List ℕ
-  row = header_row (file_header l)
+module _ (bytes : List ℕ) (h : FileHeader) (held : Holds bytes 0 (word_bytes (header_row h))) where
+  pub entry_read : h.entry < 2 ^ 32 → e_entry bytes ≡ h.entry
+  entry_read fits = words_held bytes 0 (header_row h) 6 held (omega arith) fits
 
-  pub shoff_read : l.headers < 2 ^ 32 → e_shoff bytes ≡ l.headers
-  shoff_read fits = words_held bytes 0 (header_row (file_header l)) 8 held (omega arith) fits
+  pub phoff_read : h.phoff < 2 ^ 32 → e_phoff bytes ≡ h.phoff
+  phoff_read fits = words_held bytes 0 (header_row h) 7 held (omega arith) fits
 
-  pub shnum_read : l.symtab + 3 < 2 ^ 16 → e_shnum bytes ≡ l.symtab + 3
-  shnum_read fits = (halves_held bytes 48 (l.symtab + 3) (l.symtab + 2) (row_held bytes 0 (header_row (file_header l)) 12 held (omega arith)) fits (omega arith)).0
+  pub shoff_read : h.shoff < 2 ^ 32 → e_shoff bytes ≡ h.shoff
+  shoff_read fits = words_held bytes 0 (header_row h) 8 held (omega arith) fits
 
-  pub shstrndx_read : l.symtab + 3 < 2 ^ 16 → e_shstrndx bytes ≡ l.symtab + 2
-  shstrndx_read fits = (halves_held bytes 48 (l.symtab + 3) (l.symtab + 2) (row_held bytes 0 (header_row (file_header l)) 12 held (omega arith)) fits (omega arith)).1
+  pub phentsize_read : e_phentsize bytes ≡ PHDR_SIZE
+  phentsize_read = (halves_held bytes 40 52 32 (row_held bytes 0 (header_row h) 10 held (omega arith)) (omega arith) (omega arith)).1
 
-  pub shentsize_read : e_shentsize bytes ≡ SHDR_SIZE
-  shentsize_read = (halves_held bytes 44 0 40 (row_held bytes 0 (header_row (file_header l)) 11 held (omega arith)) (omega arith) (omega arith)).1
+  pub phnum_read : h.phnum < 2 ^ 16 → e_phnum bytes ≡ h.phnum
+  phnum_read fits = (halves_held bytes 44 h.phnum 40 (row_held bytes 0 (header_row h) 11 held (omega arith)) fits (omega arith)).0
 
-  type_read : e_type bytes ≡ 1
-  type_read = (halves_held bytes 16 1 40 (row_held bytes 0 (header_row (file_header l)) 4 held (omega arith)) (omega arith) (omega arith)).0
+  pub shentsize_read : h.phnum < 2 ^ 16 → e_shentsize bytes ≡ SHDR_SIZE
+  shentsize_read fits = (halves_held bytes 44 h.phnum 40 (row_held bytes 0 (header_row h) 11 held (omega arith)) fits (omega arith)).1
 
-  machine_read : e_machine bytes ≡ 40
-  machine_read = (halves_held bytes 16 1 40 (row_held bytes 0 (header_row (file_header l)) 4 held (omega arith)) (omega arith) (omega arith)).1
+  pub shnum_read : h.shnum < 2 ^ 16 → h.shstrndx < 2 ^ 16 → e_shnum bytes ≡ h.shnum
+  shnum_read fits names = (halves_held bytes 48 h.shnum h.shstrndx (row_held bytes 0 (header_row h) 12 held (omega arith)) fits names).0
+
+  pub shstrndx_read : h.shnum < 2 ^ 16 → h.shstrndx < 2 ^ 16 → e_shstrndx bytes ≡ h.shstrndx
+  shstrndx_read fits names = (halves_held bytes 48 h.shnum h.shstrndx (row_held bytes 0 (header_row h) 12 held (omega arith)) fits names).1
+
+  pub type_read : h.kind < 2 ^ 16 → e_type bytes ≡ h.kind
+  type_read fits = (halves_held bytes 16 h.kind 40 (row_held bytes 0 (header_row h) 4 held (omega arith)) fits (omega arith)).0
+
+  machine_read : h.kind < 2 ^ 16 → e_machine bytes ≡ 40
+  machine_read fits = (halves_held bytes 16 h.kind 40 (row_held bytes 0 (header_row h) 4 held (omega arith)) fits (omega arith)).1
 
   version_read : e_version bytes ≡ 1
-  version_read = words_held bytes 0 (header_row (file_header l)) 5 held (omega arith) (omega arith)
+  version_read = words_held bytes 0 (header_row h) 5 held (omega arith) (omega arith)
 
   flags_read : e_flags bytes ≡ 0x0500_0000
-  flags_read = words_held bytes 0 (header_row (file_header l)) 9 held (omega arith) (omega arith)
+  flags_read = words_held bytes 0 (header_row h) 9 held (omega arith) (omega arith)
 
-  row_length : length (word_bytes (header_row (file_header l))) ≡ 52
-  row_length = length-words (header_row (file_header l))
+  row_length : length (word_bytes (header_row h)) ≡ 52
+  row_length = length-words (header_row h)
 
-  at : (k : ℕ) → k < 52 → slice_index bytes (0 + k) ≡ get_or (word_bytes (header_row (file_header l))) k 0
-  at k lt = byte_held bytes 0 k (word_bytes (header_row (file_header l))) held (omega (arith, row_length))
+  at : (k : ℕ) → k < 52 → slice_index bytes (0 + k) ≡ get_or (word_bytes (header_row h)) k 0
+  at k lt = byte_held bytes 0 k (word_bytes (header_row h)) held (omega (arith, row_length))
 
   magic : first_failing (magic_tests bytes) ≡ None
   unfolding magic_tests each_below
@@ -105,25 +112,25 @@ module _ (bytes : List ℕ) (l : RelLayout) (held : Holds bytes 0 (word_bytes (h
       let b6 : slice_index bytes 6 ≡ 1 = at 6 (omega arith) in
       rw (b0, b1, b2, b3, b4, b5, b6) refl
 
-  abi : first_failing (abi_tests relocatable_abis bytes) ≡ None
+  abi : (abis : List ℕ) → is_one_of abis 65 ≡ true → first_failing (abi_tests abis bytes) ≡ None
   unfolding abi_tests
-  abi = let b : slice_index bytes 7 ≡ 65 = at 7 (omega arith) in rw b refl
+  abi abis known = let b : slice_index bytes 7 ≡ 65 = at 7 (omega arith) in rw (b, known) refl
 
-  machine : first_failing (machine_tests bytes) ≡ None
+  machine : h.kind < 2 ^ 16 → first_failing (machine_tests bytes) ≡ None
   unfolding machine_tests
-  machine = rw (machine_read, flags_read) refl
+  machine fits = rw (machine_read fits, flags_read) refl
 
-  known_type : first_failing (type_tests relocatable_types bytes) ≡ None
+  known_type : (types : List ℕ) → h.kind < 2 ^ 16 → is_one_of types h.kind ≡ true → first_failing (type_tests types bytes) ≡ None
   unfolding type_tests
-  known_type = rw (type_read, version_read) refl
+  known_type types fits known = rw (type_read fits, known, version_read) refl
 
   size : first_failing (size_tests bytes) ≡ None
   unfolding size_tests
   size = let i = held.inside in let e : nat_lt (length bytes) EHDR_SIZE ≡ false = le-ltb _ _ (omega (arith, i, row_length)) in rw e refl
 
-  pub file_passes : first_failing (file_tests relocatable_abis relocatable_types bytes) ≡ None
+  pub file_passes : (abis types : List ℕ) → is_one_of abis 65 ≡ true → h.kind < 2 ^ 16 → is_one_of types h.kind ≡ true → first_failing (file_tests abis types bytes) ≡ None
   unfolding file_tests ident_tests
-  file_passes =
-      both (size_tests bytes) (ident_tests relocatable_abis bytes ++ (machine_tests bytes ++ type_tests relocatable_types bytes)) size
-      (both (ident_tests relocatable_abis bytes) (machine_tests bytes ++ type_tests relocatable_types bytes) (both (magic_tests bytes) (abi_tests relocatable_abis bytes) magic abi)
-      (both (machine_tests bytes) (type_tests relocatable_types bytes) machine known_type))
+  file_passes abis types fdpic fits known =
+      both (size_tests bytes) (ident_tests abis bytes ++ (machine_tests bytes ++ type_tests types bytes)) size
+      (both (ident_tests abis bytes) (machine_tests bytes ++ type_tests types bytes) (both (magic_tests bytes) (abi_tests abis bytes) magic (abi abis fdpic))
+      (both (machine_tests bytes) (type_tests types bytes) (machine fits) (known_type types fits known)))

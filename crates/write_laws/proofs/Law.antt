@@ -17,7 +17,7 @@ use Rattle.elf_model.specs.RelEntries.{all_relocating_tests, rels_at}
 use Rattle.elf_model.specs.Relocatable.{IsRelocatable, relocatable_abis, relocatable_types, relocatable_tests, relocatable_of, section_of, sections}
 use Rattle.elf_model.proofs.Passing.{both}
 use Rattle.elf_write.specs.declared.limits.TheConstants.{MAX_FILE_BYTES}
-use Rattle.elf_write.specs.RelFile.{null_header, layout_of, rel_file, section_strings}
+use Rattle.elf_write.specs.RelFile.{file_header, null_header, layout_of, rel_file, section_strings}
 use Rattle.elf_write.specs.WritableRel.{IsWritableRel}
 use Rattle.write_laws.specs.ReadBack.{FitsFields, WrittenIsRead}
 use Rattle.write_laws.proofs.Listing.{lists_map, lists_at, lists_from, lists_behind, all_pass, none_passes, range-append}
@@ -38,7 +38,7 @@ module _ (r : RelObject) (w : IsWritableRel r) (f : FitsFields r) (short : lengt
       let symbols = all_symbol_tests bytes ++ entries in
       let tables = symbol_table_tests bytes ++ symbols in
       let sections = all_section_tests bytes ++ tables in
-      both (file_tests relocatable_abis relocatable_types bytes) (needed_table_tests bytes ++ sections) (file_passes bytes (layout_of r) (part r w f short).header)
+      both (file_tests relocatable_abis relocatable_types bytes) (needed_table_tests bytes ++ sections) (file_passes bytes (file_header (layout_of r)) (part r w f short).header relocatable_abis relocatable_types refl (omega arith) refl)
       (both (needed_table_tests bytes) sections (table_passes r w f short)
       (both (all_section_tests bytes) tables (sections_pass r w f short)
       (both (symbol_table_tests bytes) symbols (table.table_passes r w f short)

@@ -15,7 +15,7 @@ use Rattle.elf_model.specs.Sections.{section_offset, section_header, section_hea
 use Rattle.elf_write.specs.declared.limits.TheConstants.{MAX_FILE_BYTES}
 use Rattle.elf_write.specs.Words.{section_row, table_bytes}
 use Rattle.elf_write.specs.Strings.{name_bytes, behind}
-use Rattle.elf_write.specs.RelFile.{end_of, names_of, table_names, section_strings, table_names_place, null_header, kept_headers, has_rels, rel_size, rel_header, rel_header_if, rel_headers, local_count, layout_of, strings_header, symbols_header, headers_of, rel_file}
+use Rattle.elf_write.specs.RelFile.{file_header, end_of, names_of, table_names, section_strings, table_names_place, null_header, kept_headers, has_rels, rel_size, rel_header, rel_header_if, rel_headers, local_count, layout_of, strings_header, symbols_header, headers_of, rel_file}
 use Rattle.elf_write.specs.WritableRel.{IsWritableRel}
 use Rattle.write_laws.specs.ReadBack.{FitsFields}
 use Rattle.write_laws.proofs.Holding as holding
@@ -193,13 +193,13 @@ module _ (r : RelObject) (w : IsWritableRel r) (f : FitsFields r) (short : lengt
   -- ---- the header of the file
 
   pub shoff : e_shoff (rel_file r) ≡ (layout_of r).headers
-  shoff = shoff_read (rel_file r) (layout_of r) part.header headers_fit
+  shoff = shoff_read (rel_file r) (file_header (layout_of r)) part.header headers_fit
 
   pub shnum : e_shnum (rel_file r) ≡ (layout_of r).symtab + 3
-  shnum = shnum_read (rel_file r) (layout_of r) part.header few_headers
+  shnum = shnum_read (rel_file r) (file_header (layout_of r)) part.header few_headers (let n = few_headers in omega (arith, n))
 
   pub shstrndx : e_shstrndx (rel_file r) ≡ (layout_of r).symtab + 2
-  shstrndx = shstrndx_read (rel_file r) (layout_of r) part.header few_headers
+  shstrndx = shstrndx_read (rel_file r) (file_header (layout_of r)) part.header few_headers (let n = few_headers in omega (arith, n))
 
   pub shnum_is : e_shnum (rel_file r) ≡ length (headers_of r)
   shnum_is =

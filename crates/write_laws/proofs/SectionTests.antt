@@ -18,7 +18,7 @@ use Rattle.elf_model.specs.Strings.{string_at}
 use Rattle.elf_model.specs.RelSections.{is_kept, bytes_in_file, bytes_so_far, kept_tests, section_tests, all_section_tests, is_section_align, is_section_range, needed_table_tests}
 use Rattle.elf_model.proofs.Passing.{passes, below_all, where_true}
 use Rattle.elf_write.specs.declared.limits.TheConstants.{MAX_FILE_BYTES}
-use Rattle.elf_write.specs.RelFile.{null_header, layout_of, headers_of, rel_header, rel_file, section_strings}
+use Rattle.elf_write.specs.RelFile.{file_header, null_header, layout_of, headers_of, rel_header, rel_file, section_strings}
 use Rattle.elf_write.specs.WritableRel.{IsWritableRel}
 use Rattle.write_laws.specs.ReadBack.{FitsFields}
 use Rattle.write_laws.proofs.Listing.{sum_so_far, none_kept, all_kept}
@@ -53,7 +53,7 @@ module _ (r : RelObject) (w : IsWritableRel r) (f : FitsFields r) (short : lengt
       let some : (e_shnum bytes == 0) ≡ false = ne_eqb (e_shnum bytes) 0 (λ e. omega (arith, e, n)) in
       let inside : passes_end bytes (e_shoff bytes) (number.SHDR_SIZE * e_shnum bytes) ≡ false = le-ltb _ _ (omega (arith, at, m, end, size)) in
       let there : nat_le (e_shnum bytes) (e_shstrndx bytes) ≡ false = lt-leb (e_shnum bytes) (e_shstrndx bytes) (omega (arith, n, names)) in
-      rw (some, shentsize_read bytes (layout_of r) (part r w f short).header, inside, there) refl
+      rw (some, shentsize_read bytes (file_header (layout_of r)) (part r w f short).header (omega arith), inside, there) refl
 
   -- ---- kept sections
 

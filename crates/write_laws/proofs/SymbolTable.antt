@@ -33,7 +33,7 @@ use Rattle.write_laws.proofs.Listed.{part, length-before, kept_of, tables_of, sy
 use Rattle.write_laws.proofs.SectionTests.{kept_hold, tables_hold}
 
 -- the symbols behind the null symbol, and it
-read_all : (read : ℕ → Symbol) (ss : List Symbol) → 0 < length ss → All (λ s. s ≡ null_symbol) (take 1 ss) → Lists read 0 ss → cond (length ss == 0) [] (null_symbol ∷ map read (range_with_len 1 (length ss - 1))) ≡ ss
+pub read_all : (read : ℕ → Symbol) (ss : List Symbol) → 0 < length ss → All (λ s. s ≡ null_symbol) (take 1 ss) → Lists read 0 ss → cond (length ss == 0) [] (null_symbol ∷ map read (range_with_len 1 (length ss - 1))) ≡ ss
 read_all read [] some null l = absurd (omega arith)
 read_all read (s ∷ ss) some null l =
     let len : suc (length ss) - 1 ≡ length ss = omega arith in

@@ -6,7 +6,7 @@ use Rattle.std.proofs.lemmas.Bool.{lt-ltb, ltb-true, le-leb, eq-eqb, ne_eqb, and
 use Rattle.std.proofs.lemmas.List.Elements.{All-head, All-tail}
 use Rattle.byteorder.specs.Endian.{little_bytes}
 use Rattle.fd_base.specs.Words.{word_in, half_in, word_bytes}
-use Rattle.elf_model.specs.declared.constants.TheConstants.{SYM_SIZE, SHN_UNDEF, SHN_ABS, SHN_COMMON, STB_LOCAL, STB_WEAK, STT_FUNC, STT_TLS, STV_PROTECTED}
+use Rattle.elf_model.specs.declared.constants.TheConstants.{SYM_SIZE, SHN_UNDEF, SHN_ABS, SHN_COMMON, STB_LOCAL, STB_WEAK, STT_FUNC, STT_TLS}
 use Rattle.elf_model.specs.declared.object.Place.{Place}
 use Rattle.elf_model.specs.declared.object.Place.TheVariants.{Undefined, Absolute, Here, Common, Section, Dropped}
 use Rattle.elf_model.specs.declared.object.Symbol.{Symbol}
@@ -32,11 +32,11 @@ use Rattle.write_laws.proofs.Naming.{IsReadAs, name_read}
 pub record IsSymbolFit (s : Symbol) : Type 0 where
   pub value : s.value < 2 ^ 32
   pub size : s.size < 2 ^ 32
-  pub binding : s.binding ≤ STB_WEAK
+  pub binding : s.binding < 16
   pub kind : s.kind < 16
-  pub visibility : s.visibility ≤ STV_PROTECTED
+  pub visibility : s.visibility < 4
 
-entry_held : (bytes : List ℕ) (at name index : ℕ) (s : Symbol) → Holds bytes at (word_bytes (symbol_row name index s)) → IsSymbolFit s → name < 2 ^ 32 → index < 2 ^ 16
+pub entry_held : (bytes : List ℕ) (at name index : ℕ) (s : Symbol) → Holds bytes at (word_bytes (symbol_row name index s)) → IsSymbolFit s → name < 2 ^ 32 → index < 2 ^ 16
     → symbol_entry bytes at ≡ record { offset = at; name = name; value = s.value; size = s.size; info = 16 * s.binding + s.kind; other = s.visibility; section = index }
 unfolding symbol_entry
 entry_held bytes at name index s h f n i =
@@ -176,8 +176,9 @@ module _ (bytes : List ℕ) (sections : ℕ) (reads : ReadsPlaces bytes sections
       let within : name ≤ length names = omega (arith, inside) in
       let place = name_fits name (length names) s.name within in
       let kind = sound.small_kind in
+      let bind = sound.known_binding in
       let vis = sound.known_visibility in
-      let fit : IsSymbolFit s = record { value = value; size = size; binding = sound.known_binding; kind = kind; visibility = vis } in
+      let fit : IsSymbolFit s = record { value = value; size = size; binding = omega (arith, bind); kind = kind; visibility = omega (arith, vis) } in
       let e = entry_held bytes at (string.place_of name s.name) (index_of s.place) s held fit (omega (arith, place, short)) (index_fits s.place sound.placed) in
       subst (IsEntryOf names s) (sym e) (record {
         named = name_read names name s.name first named sound.named;

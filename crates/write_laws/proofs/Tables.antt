@@ -70,7 +70,7 @@ filled_le : (b : Bool) (size : ℕ) → cond b 0 size ≤ size
 filled_le true size = omega arith
 filled_le false size = omega arith
 
-known_lt : (n symbols : ℕ) → (n == 0 || nat_lt n symbols) ≡ true → symbols ≤ MAX_ENTRIES → n < 2 ^ 24
+pub known_lt : (n symbols : ℕ) → (n == 0 || nat_lt n symbols) ≡ true → symbols ≤ MAX_ENTRIES → n < 2 ^ 24
 known_lt n symbols h few =
     elim (or_cases (n == 0) (nat_lt n symbols) h) [
       | inl e ↦ omega (arith, eqb-true n 0 e)

@@ -3,4 +3,4 @@
 
 mod read_back;
 
-pub use read_back::written_is_read;
+pub use read_back::{written_is_read, written_object_is_read};

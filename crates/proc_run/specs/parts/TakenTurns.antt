@@ -7,6 +7,7 @@ use Rattle.run_model.specs.declared.service.Served.{Served}
 use Rattle.run_model.specs.declared.thread.Thread.{Thread}
 use Rattle.run_model.specs.Instructions.{Obeyed, obeyed_by}
 use Rattle.run_turn.specs.declared.quiet.Passed.{Passed}
+use Rattle.run_turn.specs.parts.QuietCalls.{NoneComplete}
 use Rattle.run_turn.specs.parts.QuietSteps.{GoQuietly, Machine, machine_of, thread_on}
 
 -- the thread after it
@@ -27,18 +28,18 @@ pub record HasObeyed (old new : Loaded) (threads later : List (Option Thread)) (
 abbrev pub loaded_on : Loaded → Machine → Loaded
 loaded_on l m = record l { memory = m.memory }
 
--- the thread has this cpu
-abbrev pub threads_on : List (Option Thread) → ℕ → Thread → Machine → List (Option Thread)
-threads_on threads t thread m = set threads t (Some (thread_on thread m.cpu))
+-- the thread has this cpu, and so many steps are done of its calls
+abbrev pub threads_on : List (Option Thread) → ℕ → Thread → ℕ → Machine → List (Option Thread)
+threads_on threads t thread n m = set threads t (Some (thread_on n thread m.cpu))
 
 -- what comes behind them, if anything does: without it they are all that were asked for
 abbrev pub EndsOn : Option Served → ℕ → ℕ → Loaded → Loaded → List (Option Thread) → List (Option Thread) → ℕ → Thread → Machine → Type 0
-EndsOn None most n old new threads later t thread mid = (n ≡ most) × (new ≡ loaded_on old mid) × (later ≡ threads_on threads t thread mid)
+EndsOn None most n old new threads later t thread mid = (n ≡ most) × (new ≡ loaded_on old mid) × (later ≡ threads_on threads t thread n mid)
 EndsOn (Some served) most n old new threads later t thread mid =
-    (n < most) × HasObeyed (loaded_on old mid) new (threads_on threads t thread mid) later t (thread_on thread mid.cpu) served
+    (n < most) × HasObeyed (loaded_on old mid) new (threads_on threads t thread n mid) later t (thread_on n thread mid.cpu) served
 
 pub record HasPassedOn (p : SymbolicProcess) (maps : List (List MapEntry)) (most : ℕ) (old new : Loaded) (threads later : List (Option Thread)) (t : ℕ) (thread : Thread) (passed : Passed) : Type 0 where
   pub mid : Machine
   pub quiet' : GoQuietly p maps passed.quiet (machine_of thread.cpu old.memory) mid
-  pub alone : 0 < passed.quiet → thread.calls ≡ []
+  pub stay : NoneComplete passed.quiet thread.calls
   pub last' : EndsOn passed.last most passed.quiet old new threads later t thread mid

@@ -1,5 +1,5 @@
 use Rattle.fdpic_cmd.specs.Forms.{command_of}
-use Rattle.fdpic_cmd.proofs.ClaimParts.{answered}
+use Rattle.fdpic_cmd.proofs.ClaimParts.{answered, still_unchanged}
 use Rattle.fdpic_cmd.proofs.Claims as claims
 use Rattle.fdpic_cmd.proofs.JournalCalls as journal
 use Rattle.fdpic_cmd.proofs.entry.top.Goals as goal
@@ -28,6 +28,15 @@ pub returns-clause-refused : goal.returns-clause-refused
 returns-clause-refused g c =
     claims.refused (command_of c.args.words.now) _ _ c.report.result
     (answered (command_of c.args.words.now) _ _ c.answer-status.result c.report.result c.answer-status.ensures.answer c.report.ensures.status)
+
+pub returns-clause-refused_keeps : goal.returns-clause-refused_keeps
+returns-clause-refused_keeps g c =
+    claims.refused_keeps (command_of c.args.words.now) _ _ c.report.result
+    (answered (command_of c.args.words.now) _ _ c.answer-status.result c.report.result c.answer-status.ensures.answer c.report.ensures.status)
+
+pub returns-clause-unchanged : goal.returns-clause-unchanged
+returns-clause-unchanged g c =
+    still_unchanged c.answer-status.result c.report.result _ _ _ _ c.answer-status.ensures.unchanged c.report.ensures.done
 
 pub returns-clause-exact : goal.returns-clause-exact
 returns-clause-exact g c =

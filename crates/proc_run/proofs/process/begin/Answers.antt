@@ -9,8 +9,8 @@ use Rattle.proc_run.proofs.Begins.{begins}
 use Rattle.proc_run.proofs.SettledTurns.{placed_now}
 use Rattle.proc_run.proofs.process.begin.Goals as goal
 
-pub first_thread-thread-requires : goal.first_thread-thread-requires
-first_thread-thread-requires c =
+pub first_thread-thread-requires-clause-placed : goal.first_thread-thread-requires-clause-placed
+first_thread-thread-requires-clause-placed c =
     placed_now c.consistent_are_placed.ensures c.args.loader.loaded c.process.result.now c.maps.result.now c.requires.consistent c.whole.ensures c.process.ensures c.maps.ensures
 
 pub threads_with-requires : goal.threads_with-requires

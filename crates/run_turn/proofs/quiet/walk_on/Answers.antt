@@ -1,7 +1,7 @@
-use Rattle.std.proofs.Common.{add-one, arith}
+use Rattle.std.proofs.Common.{add-one}
 use Rattle.guest_mem.proofs.Keeping.{Keeps-then}
 use Rattle.run_turn.specs.parts.QuietSteps.{machine_of}
-use Rattle.run_turn.proofs.QuietWalks.{goes_back, has_gone_on}
+use Rattle.run_turn.proofs.QuietWalks.{has_asked, has_gone_on, has_stopped}
 use Rattle.run_turn.proofs.quiet.walk_on.Goals as goal
 
 pub returns-then-not-contains-clause-walked : goal.returns-then-not-contains-clause-walked
@@ -16,8 +16,18 @@ pub returns-in-Service-clause-walked : goal.returns-in-Service-clause-walked
 returns-in-Service-clause-walked c = λ p maps clear. record {
   mid = machine_of c.loop-quiet.cpu c.loop-quiet.guest;
   quiet' = c.loop-quiet.invariant.walked p maps clear;
-  last' = goes_back c.loop-quiet.cpu c.step_decoded.new.cpu c.loop-quiet.guest c.step_decoded.new.guest c.step_decoded.result c.step_decoded.ensures.step c.in-Service.field-0 c.in-Service.is;
-  within = omega (arith, c.loop-quiet-test.true);
+  last' = has_asked c.loop-quiet.cpu c.step_decoded.new.cpu c.loop-quiet.guest c.step_decoded.new.guest c.step_decoded.result c.step_decoded.ensures.step c.in-Service.number c.in-Service.is;
+  within = c.loop-quiet-test.true;
+}
+
+pub returns-in-Stop-clause-walked : goal.returns-in-Stop-clause-walked
+returns-in-Stop-clause-walked c = λ p maps clear. record {
+  mid = machine_of c.loop-quiet.cpu c.loop-quiet.guest;
+  quiet' = c.loop-quiet.invariant.walked p maps clear;
+  last' =
+      has_stopped c.loop-quiet.cpu c.step_decoded.new.cpu c.loop-quiet.guest c.step_decoded.new.guest c.step_decoded.result c.step_decoded.ensures.step c.in-Stop.why c.in-Stop.is
+      (c.step_decoded.ensures.stops c.in-Stop.why c.in-Stop.is);
+  within = c.loop-quiet-test.true;
 }
 
 pub loop-quiet-preserved : goal.loop-quiet-preserved

@@ -2,7 +2,7 @@ use Rattle.std.proofs.Common.{List}
 use Rattle.guest_mem.specs.parts.Kept.{Keeps}
 use Rattle.load_map.specs.declared.entry.MapEntry.{MapEntry}
 use Rattle.load_model.specs.declared.module.SymbolicProcess.{SymbolicProcess}
-use Rattle.run_turn.specs.parts.ClearPlaces.{AreClear}
+use Rattle.run_turn.specs.parts.Lookups.{AreClear}
 use Rattle.run_turn.specs.parts.QuietSteps.{GoQuietly, machine_of}
 use Rattle.run_turn.proofs.quiet.walk_on.Given as goal
 

@@ -1,0 +1,15 @@
+pub mod Section
+pub mod Said
+pub mod Shown
+pub mod AssembledIsWritable
+pub mod Bytes
+pub mod Directive
+pub mod Line
+pub mod Known
+pub mod Layout
+pub mod FirstPass
+pub mod SecondPass
+pub mod Object
+pub mod Text
+pub mod Assembles
+pub mod parts

@@ -1,0 +1,12 @@
+pub mod ExampleInputs
+pub mod LinkedExamples
+pub mod RefusedExamples
+pub mod Positions
+pub mod Numbering
+pub mod Placed
+pub mod Sited
+pub mod Needed
+pub mod Agreeing
+pub mod Written
+pub mod Passed
+pub mod Naming

@@ -1,0 +1,16 @@
+pub mod Numbers
+pub mod Inputs
+pub mod Joined
+pub mod Targets
+pub mod Sections
+pub mod GotLayout
+pub mod Needs
+pub mod Places
+pub mod DynamicSymbols
+pub mod Sites
+pub mod SiteTests
+pub mod Segments
+pub mod DynamicRels
+pub mod Object
+pub mod Refusals
+pub mod parts
