@@ -31,6 +31,8 @@ AHEAD = {
         "link_model/specs/GotLayout", "link_model/specs/Inputs", "link_model/specs/Joined", "link_model/specs/Needs",
         "link_model/specs/Object", "link_model/specs/Places", "link_model/specs/Refusals", "link_model/specs/Sections",
         "link_model/specs/Segments", "link_model/specs/SiteTests", "link_model/specs/Sites", "link_model/specs/Targets",
+        "link_writes/specs/Linked", "link_sites/specs/Loaded", "link_sites/specs/Meaning", "link_means/specs/Values",
+        "link_means/specs/Means", "link_means/specs/Linked",
     )
 }
 IMPORT = re.compile(r"\buse Rattle\.(\w+)\.specs\.([\w.]+?)(?:\.\{([^}]*)\})?(?: as \w+)?;?\s*$", re.M)

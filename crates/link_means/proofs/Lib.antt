@@ -1,0 +1,11 @@
+pub mod Held
+pub mod Listed
+pub mod Addresses
+pub mod Texts
+pub mod Branches
+pub mod Output
+pub mod Apart
+pub mod Staying
+pub mod Sharing
+pub mod IdleBranches
+pub mod Distances

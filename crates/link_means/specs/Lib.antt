@@ -1,0 +1,4 @@
+pub mod Values
+pub mod Means
+pub mod Linked
+pub mod parts

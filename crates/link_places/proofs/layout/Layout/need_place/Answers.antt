@@ -1,0 +1,8 @@
+use Rattle.std.proofs.Common.{◌+◌, ap, ◌∙◌}
+use Rattle.link_model.specs.Needs.{offset_of}
+use Rattle.link_places.proofs.layout.Layout.need_place.Goals as goal
+
+pub returns : goal.returns
+returns c =
+    let l = c.args.self.now in
+    λ i. l.begin i + (c.from.ensures ∙ c.offset.ensures ∙ ap (λ ns. offset_of ns c.args.need) l.wanted) i

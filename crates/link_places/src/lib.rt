@@ -1,0 +1,19 @@
+//! Where everything of a linked object lies: its sections, what stands in its GOT, the entries of its PLT and its
+//! common blocks.
+#![tactic(auto)]
+
+mod blocks;
+mod data;
+mod got;
+mod heads;
+mod layout;
+mod lying;
+mod needs;
+mod text;
+mod wants;
+
+pub use heads::{SectionHead, SectionHeads, section_heads};
+pub use layout::Layout;
+pub use needs::NeedTable;
+pub use text::TextPlaces;
+pub use wants::descriptor_need;

@@ -1,0 +1,12 @@
+mod Tested
+mod Aligned
+mod Segmented
+mod Pairs
+mod Filled
+mod Sites
+mod Sounding
+mod Seen
+mod Relocated
+mod Fields
+mod Writable
+mod Symbols
