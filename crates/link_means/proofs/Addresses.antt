@@ -45,7 +45,7 @@ address_kinds kind is = elim (or_cases (R_ARM_ABS32 == kind) (R_ARM_TARGET1 == k
   ]
 ]
 
-its_word : (mode : Mode) (inputs : List RelObject) (x : InputRel) → is_address_kind (x.rel).kind ≡ true → (target_at mode inputs x).reach ≡ Settled
+pub its_word : (mode : Mode) (inputs : List RelObject) (x : InputRel) → is_address_kind (x.rel).kind ≡ true → (target_at mode inputs x).reach ≡ Settled
     → site_word mode inputs x ≡ Some (word_of (sum_of mode inputs x))
 unfolding site_word target_at site_address all_needs
 its_word mode inputs x kind settled = elim (address_kinds (x.rel).kind kind) [ inl is ↦ rw (is, settled) refl | inr is ↦ rw (is, settled) refl ]

@@ -1,5 +1,5 @@
 -- Distances between link addresses of one segment.
-use Rattle.std.proofs.Common.{◌≡◌, ℕ, ◌+◌, ◌<◌, ◌≤◌, ℤ, Bool, true, false, cond, not, ◌&&◌, List, [], ◌∷◌, map, Some, refl, sym, ap, subst, ◌∙◌, arith}
+use Rattle.std.proofs.Common.{◌≡◌, ℕ, ◌+◌, ◌%◌, ◌^◌, ◌<◌, ◌≤◌, ℤ, Bool, true, false, cond, not, ◌&&◌, List, [], ◌∷◌, map, Some, refl, sym, ap, subst, ◌∙◌, arith}
 use Rattle.std.specs.Prelude.{◌==◌, Contains, nat_le, pos, ◌+ℤ◌, ◌-ℤ◌}
 use Rattle.std.specs.Option.{option_map_or}
 use Rattle.std.proofs.lemmas.Bool.{and_parts, leb-true}
@@ -9,6 +9,7 @@ use Rattle.elf_model.specs.declared.object.Object.{Object}
 use Rattle.elf_model.specs.declared.relocatable.RelObject.{RelObject}
 use Rattle.load_map.specs.Translation.{placed}
 use Rattle.load_model.specs.Image.{Placing, got_of}
+use Rattle.elf_model.specs.Sound.{IsSound}
 use Rattle.link_layout.specs.declared.layout.Piece.{Piece}
 use Rattle.link_layout.specs.Layout.{aligned, place_of}
 use Rattle.link_layout.proofs.Lying.{end_from, from_aligned}
@@ -31,7 +32,7 @@ use Rattle.link_sites.proofs.Sites.{difference}
 use Rattle.link_means.specs.Values.{settled_value}
 use Rattle.link_means.specs.parts.Laws.{DistancesMean, IsOutput, is_filled_kind}
 use Rattle.link_means.proofs.Held.{data_begins, got_ends, in_data}
-use Rattle.link_means.proofs.Sharing.{shares_in_data, shares_in_text}
+use Rattle.link_means.proofs.Sharing.{data_small, shares_in_data, shares_in_text, text_address_small}
 use Rattle.link_means.proofs.Staying.{words_stay}
 use Rattle.link_means.proofs.Texts.{in_text}
 
@@ -60,7 +61,7 @@ section_above mode inputs k data' = by (is_text_section inputs k) data'
     by true no' = absurd cc
     by false yes' = from
 
-spot_above : (mode : Mode) (inputs : List RelObject) (spot : Spot) → is_in_data inputs spot ≡ true → got_end mode inputs ≤ address_of mode inputs spot
+pub spot_above : (mode : Mode) (inputs : List RelObject) (spot : Spot) → is_in_data inputs spot ≡ true → got_end mode inputs ≤ address_of mode inputs spot
 spot_above mode inputs Nowhere is = absurd cc
 spot_above mode inputs (Absolute v) is = absurd cc
 spot_above mode inputs (Section k offset) is = let above = section_above mode inputs k is in omega (arith, above)
@@ -69,7 +70,7 @@ spot_above mode inputs (Common k) is =
     let block = place_from block_piece (λ t. is_block_of k t.spot) (zeros_end mode inputs) (blocks_of mode inputs) in
     omega (arith, zeros, block)
 
-got_some : (mode : Mode) (inputs : List RelObject) → data_place mode inputs < got_end mode inputs
+pub got_some : (mode : Mode) (inputs : List RelObject) → data_place mode inputs < got_end mode inputs
 got_some mode inputs = omega arith
 
 -- ---- what is in reach
@@ -118,8 +119,28 @@ offset_word mode inputs x kind settled = rw (kind, settled) refl
 same_distance : (s base s' base' : ℕ) (a : ℤ) → (pos s' -ℤ pos base') ≡ pos s -ℤ pos base → (pos s +ℤ a) -ℤ pos base ≡ pos s' +ℤ a -ℤ pos base'
 same_distance s base s' base' a same = omega (arith, ints)
 
-value_is : (mode : Mode) (inputs : List RelObject) (p : Placing) (m : ℕ) (spot : Spot) → is_absolute spot ≡ false → settled_value mode inputs p m spot ≡ placed (p.maps m) (address_of mode inputs spot)
-value_is mode inputs p m spot off = rw off refl
+pub value_is : (mode : Mode) (inputs : List RelObject) (p : Placing) (m : ℕ) (spot : Spot) → is_absolute spot ≡ false → address_of mode inputs spot < 2 ^ 32
+    → settled_value mode inputs p m spot ≡ placed (p.maps m) (address_of mode inputs spot)
+value_is mode inputs p m spot off small =
+    ap (λ b. cond b (address_of mode inputs spot) (placed (p.maps m) (address_of mode inputs spot % 2 ^ 32))) off
+    ∙ ap (placed (p.maps m)) (omega (arith, small))
+
+-- what lies in its segment has an address of 32 bits
+module _ (mode : Mode) (inputs : List RelObject) (o : Object) (out : IsOutput mode inputs o) (sound : IsSound o) (spot : Spot) where
+  pub small_in_data : is_within_data mode inputs spot ≡ true → address_of mode inputs spot < 2 ^ 32
+  small_in_data within =
+      let parts = and_parts (is_in_data inputs spot) (nat_le (address_of mode inputs spot) (data_end mode inputs)) within in
+      let below = leb-true (address_of mode inputs spot) (data_end mode inputs) parts.1 in
+      omega (arith, below, data_small mode inputs o out sound)
+
+  pub small_in_text : is_within_text mode inputs spot ≡ true → address_of mode inputs spot < 2 ^ 32
+  small_in_text within =
+      let parts = and_parts (is_in_text inputs spot) (nat_le (address_of mode inputs spot) (text_end mode inputs)) within in
+      text_address_small mode inputs o out (address_of mode inputs spot) sound (leb-true (address_of mode inputs spot) (text_end mode inputs) parts.1)
+
+  small_in_one : (b : Bool) → cond b (is_within_data mode inputs spot) (is_within_text mode inputs spot) ≡ true → address_of mode inputs spot < 2 ^ 32
+  small_in_one true within = small_in_data within
+  small_in_one false within = small_in_text within
 
 pub distances_mean : DistancesMean
 distances_mean = record {
@@ -132,9 +153,10 @@ distances_mean = record {
       let one = reached ((x.rel).kind == R_ARM_REL32) (is_settled (target_at mode inputs x).reach) (is_in_one_segment mode inputs x) reach.distance (ap (λ n. n == R_ARM_REL32) kind) (ap is_settled settled) in
       let other : is_filled_kind (x.rel).kind ≡ false = ap is_filled_kind kind in
       let stays = words_stay mode inputs o l p m x (word_of (sum_of mode inputs x -ℤ pos v)) clear out is there other (relative_word mode inputs x kind settled) in
+      let small = small_in_one mode inputs o out is.sound spot (is_writable x.at) one in
       let apart = difference l p m o v s is (site_shares mode inputs o clear out x there one) in
       let same = same_distance s v (placed (p.maps m) s) (placed (p.maps m) v) (addend_of x) apart
-      ∙ ap (λ n. pos n +ℤ addend_of x -ℤ pos (placed (p.maps m) v)) (sym (value_is mode inputs p m spot off)) in
+      ∙ ap (λ n. pos n +ℤ addend_of x -ℤ pos (placed (p.maps m) v)) (sym (value_is mode inputs p m spot off small)) in
       subst (λ z. LoadedWord l p m o v (word_of z)) same stays;
   from_got = λ mode inputs o l p m x clear out is there kind settled near.
       let v = site_address mode inputs x in
@@ -147,10 +169,11 @@ distances_mean = record {
       let other : is_filled_kind (x.rel).kind ≡ false = ap is_filled_kind kind in
       let stays = words_stay mode inputs o l p m x (word_of (sum_of mode inputs x -ℤ pos base)) clear out is there other (offset_word mode inputs x kind settled) in
       let shares = data_shares mode inputs o clear out base spot (omega arith) (omega (arith, got_some mode inputs, got_ends mode inputs)) within in
+      let small = small_in_data mode inputs o out is.sound spot within in
       let apart = difference l p m o base s is shares in
       let got : got_of p m ≡ placed (p.maps m) base = ap (λ g. option_map_or (placed (p.maps m)) g 0) is.got' ∙ ap (placed (p.maps m)) out.got' in
       let same = same_distance s base (placed (p.maps m) s) (placed (p.maps m) base) (addend_of x) apart
-      ∙ ap (λ n. pos n +ℤ addend_of x -ℤ pos (placed (p.maps m) base)) (sym (value_is mode inputs p m spot off))
+      ∙ ap (λ n. pos n +ℤ addend_of x -ℤ pos (placed (p.maps m) base)) (sym (value_is mode inputs p m spot off small))
       ∙ ap (λ n. pos (settled_value mode inputs p m spot) +ℤ addend_of x -ℤ pos n) (sym got) in
       subst (λ z. LoadedWord l p m o v (word_of z)) same stays;
 }

@@ -9,3 +9,13 @@ pub mod Staying
 pub mod Sharing
 pub mod IdleBranches
 pub mod Distances
+pub mod Words
+pub mod Kept
+pub mod Unlinked
+pub mod Got
+pub mod Defined
+pub mod GotKinds
+pub mod OwnDescriptors
+pub mod Linking
+pub mod Standing
+pub mod Sums

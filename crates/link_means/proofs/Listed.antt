@@ -9,6 +9,7 @@ use Rattle.elf_model.specs.declared.object.Rel.{Rel}
 use Rattle.elf_model.specs.declared.relocatable.RelObject.{RelObject}
 use Rattle.elf_model.specs.Filled.{fixup_at, plain_site, slot_sites, sites_of}
 use Rattle.link_model.specs.declared.input.Mode.{Mode}
+use Rattle.link_model.specs.declared.need.Need.{Need}
 use Rattle.link_model.specs.DynamicRels.{by_site, dynamic_rels, need_rels, put_by_site}
 use Rattle.link_model.specs.Inputs.{InputRel, all_rels}
 use Rattle.link_model.specs.Needs.{all_needs}
@@ -47,6 +48,14 @@ in_dynamic mode inputs x r there own =
     let needs = flat_map (need_rels mode inputs) (all_needs mode inputs) in
     let sites = flat_map (site_rels mode inputs) (all_rels inputs) in
     in_order r (needs ++ sites) (Contains-append_right needs sites r (flat_map_in (site_rels mode inputs) (all_rels inputs) x r there own))
+
+-- those of the GOT
+pub need_in_dynamic : (mode : Mode) (inputs : List RelObject) (n : Need) (r : Rel) → Contains (all_needs mode inputs) n → Contains (need_rels mode inputs n) r
+    → Contains (dynamic_rels mode inputs) r
+need_in_dynamic mode inputs n r there own =
+    let needs = flat_map (need_rels mode inputs) (all_needs mode inputs) in
+    let sites = flat_map (site_rels mode inputs) (all_rels inputs) in
+    in_order r (needs ++ sites) (Contains-append_left needs sites r (flat_map_in (need_rels mode inputs) (all_needs mode inputs) n r there own))
 
 -- a relative relocation is one of DT_REL, or a fixup
 pub fixup_listed : (mode : Mode) (inputs : List RelObject) (o : Object) (v : ℕ) → IsOutput mode inputs o → Contains (dynamic_rels mode inputs) (fixup_at v)

@@ -1,18 +1,21 @@
 -- Two link addresses of one segment of a linked object, the second of which may be its end.
-use Rattle.std.proofs.Common.{◌≡◌, ◌≢◌, ℕ, ◌<◌, ◌≤◌, Bool, true, false, cond, List, [], ◌∷◌, ◌++◌, Some, refl, sym, ap, subst, ◌∙◌, arith, All}
+use Rattle.std.proofs.Common.{◌≡◌, ◌≢◌, ℕ, ◌^◌, ◌<◌, ◌≤◌, inl, inr, Bool, true, false, cond, List, [], ◌∷◌, ◌++◌, Some, refl, sym, ap, subst, ◌∙◌, arith, All}
 use Rattle.std.specs.Prelude.{◌==◌, slice_get}
+use Rattle.std.proofs.lemmas.Bool.{cases_lt}
 use Rattle.std.proofs.lemmas.List.Elements.{All-append, All-cons, All-nil}
 use Rattle.fd_base.proofs.Lists.{all_at}
 use Rattle.elf_model.specs.declared.object.Object.{Object}
 use Rattle.elf_model.specs.declared.object.Segment.{Segment}
 use Rattle.elf_model.specs.declared.relocatable.RelObject.{RelObject}
+use Rattle.elf_model.specs.Sound.{IsSized, IsSound}
 use Rattle.link_model.specs.declared.input.Mode.{Mode}
 use Rattle.link_model.specs.Places.{data_end, data_place, text_end}
 use Rattle.link_model.specs.Segments.{data_segment, segments_of, text_segment}
 use Rattle.link_model.proofs.Placed.{data_above}
 use Rattle.link_sites.specs.parts.Linked.{ShareSegment}
 use Rattle.link_means.specs.parts.Laws.{IsOutput}
-use Rattle.link_means.proofs.Texts.{text_first}
+use Rattle.link_means.proofs.Held.{data_begins}
+use Rattle.link_means.proofs.Texts.{text_first, text_small}
 
 module _ (mode : Mode) (inputs : List RelObject) (o : Object) (out : IsOutput mode inputs o) where
   -- no segment begins at a place that is none of the begins
@@ -43,24 +46,38 @@ module _ (mode : Mode) (inputs : List RelObject) (o : Object) (out : IsOutput mo
         (none_begins u (λ e. absurd (omega (arith, e, end, lt))) (λ e. absurd (omega (arith, e, le, above))) (omega (arith, le, above, data'))) at;
   }
 
-  pub shares_in_data : (v u : ℕ) → data_place mode inputs ≤ v → v < data_end mode inputs → data_place mode inputs < u → u ≤ data_end mode inputs → ShareSegment o v u
-  shares_in_data v u from lt above le = by (text_end mode inputs == 0) refl
+  -- the data is a segment
+  pub data_held : (k : ℕ) × (slice_get o.segments k ≡ Some (data_segment mode inputs))
+  data_held = by (text_end mode inputs == 0) refl
     where
-      made : (k : ℕ) → slice_get o.segments k ≡ Some (data_segment mode inputs) → ShareSegment o v u
-      made k held = record {
-        segment = data_segment mode inputs;
-        place = k;
-        held = held;
-        from = from;
-        below = omega (arith, from, lt);
-        from' = omega (arith, above);
-        below' = omega (arith, above, le);
-        ends = λ end j s at.
-            all_at (λ (t : Segment). t.vaddr ≢ u) o.segments j s (none_begins u (λ e. absurd (omega (arith, e, above))) (λ e. absurd (omega (arith, e, above))) le) at;
-      }
+      all : Bool → List Segment
+      all b = cond b (data_segment mode inputs ∷ []) (text_segment mode inputs ∷ data_segment mode inputs ∷ []) ++ out.others
 
-      by : (b : Bool) → (text_end mode inputs == 0) ≡ b → ShareSegment o v u
-      by true is =
-          made 0 (ap (λ ss. slice_get ss 0) (out.segments' ∙ ap (λ b. cond b (data_segment mode inputs ∷ []) (text_segment mode inputs ∷ data_segment mode inputs ∷ []) ++ out.others) is))
-      by false is =
-          made 1 (ap (λ ss. slice_get ss 1) (out.segments' ∙ ap (λ b. cond b (data_segment mode inputs ∷ []) (text_segment mode inputs ∷ data_segment mode inputs ∷ []) ++ out.others) is))
+      by : (b : Bool) → (text_end mode inputs == 0) ≡ b → (k : ℕ) × (slice_get o.segments k ≡ Some (data_segment mode inputs))
+      by true is = (0, ap (λ ss. slice_get ss 0) (out.segments' ∙ ap all is))
+      by false is = (1, ap (λ ss. slice_get ss 1) (out.segments' ∙ ap all is))
+
+  pub shares_in_data : (v u : ℕ) → data_place mode inputs ≤ v → v < data_end mode inputs → data_place mode inputs < u → u ≤ data_end mode inputs → ShareSegment o v u
+  shares_in_data v u from lt above le = record {
+    segment = data_segment mode inputs;
+    place = data_held.0;
+    held = data_held.1;
+    from = from;
+    below = omega (arith, from, lt);
+    from' = omega (arith, above);
+    below' = omega (arith, above, le);
+    ends = λ end j s at.
+        all_at (λ (t : Segment). t.vaddr ≢ u) o.segments j s (none_begins u (λ e. absurd (omega (arith, e, above))) (λ e. absurd (omega (arith, e, above))) le) at;
+  }
+
+  -- link addresses in the data are words
+  pub data_small : IsSound o → data_end mode inputs < 2 ^ 32
+  data_small sound =
+      let end = (all_at IsSized o.segments data_held.0 (data_segment mode inputs) sound.sized data_held.1).end in
+      omega (arith, end, data_begins mode inputs)
+
+  pub text_address_small : (u : ℕ) → IsSound o → u ≤ text_end mode inputs → u < 2 ^ 32
+  text_address_small u sound le = elim (cases_lt 0 (text_end mode inputs)) [
+    | inl some ↦ let small = text_small mode inputs o out sound some in omega (arith, le, small)
+    | inr none ↦ omega (arith, le, none)
+  ]

@@ -73,7 +73,7 @@ module _ (mode : Mode) (inputs : List RelObject) where
   pub text_first : (o : Object) → IsOutput mode inputs o → 0 < text_end mode inputs → slice_get o.segments 0 ≡ Some (text_segment mode inputs)
   text_first o out some = ap (λ ss. slice_get ss 0) (out.segments' ∙ ap (λ ss. ss ++ out.others) (both_segments some))
 
-  text_holds : (v : ℕ) → v < text_end mode inputs → list_any (λ s. is_held_in s v) (segments_of mode inputs) ≡ true
+  pub text_holds : (v : ℕ) → v < text_end mode inputs → list_any (λ s. is_held_in s v) (segments_of mode inputs) ≡ true
   text_holds v below =
       let held : is_held_in (text_segment mode inputs) v ≡ true = is_inside 0 (text_end mode inputs) v (omega arith) (omega (arith, below)) in
       ap (list_any (λ s. is_held_in s v)) (both_segments (omega (arith, below)))

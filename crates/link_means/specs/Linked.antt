@@ -1,11 +1,13 @@
 -- What it means that an object is linked from these inputs: it is the object of the definitions, and loading makes each
 -- relocation mean what its kind says.
-use Rattle.std.specs.Prelude.{◌≡◌, ◌≢◌, ℕ, ◌+◌, true, Bool, ◌==◌, List, filter, Contains, AllPairs}
+use Rattle.std.specs.Prelude.{◌≡◌, ◌≢◌, ℕ, ◌+◌, ◌<◌, true, Bool, ◌==◌, List, get_or, None, filter, Contains, All, AllPairs}
 use Rattle.elf_model.specs.declared.constants.TheConstants.{R_ARM_FUNCDESC_VALUE}
 use Rattle.elf_model.specs.declared.object.Object.{Object}
 use Rattle.elf_model.specs.declared.object.Rel.{Rel}
 use Rattle.elf_model.specs.declared.relocatable.RelObject.{RelObject}
 use Rattle.elf_model.specs.Places.{file_word}
+use Rattle.elf_model.specs.RelSound.{IsRelSound}
+use Rattle.elf_model.specs.Test.{first_failing}
 use Rattle.elf_write.specs.TableSegment.{with_tables}
 use Rattle.load_map.specs.Translation.{placed}
 use Rattle.load_model.specs.Definition.{Linkage}
@@ -13,11 +15,13 @@ use Rattle.load_model.specs.Image.{Placing, got_of}
 use Rattle.link_model.specs.declared.input.Lib.{Lib}
 use Rattle.link_model.specs.declared.input.Mode.{Mode}
 use Rattle.link_model.specs.declared.need.Need.TheVariants.{Descriptor}
-use Rattle.link_model.specs.Inputs.{InputRel, all_rels}
+use Rattle.link_model.specs.Inputs.{InputRel, InputSection, all_rels, sections_of}
 use Rattle.link_model.specs.Needs.{all_needs}
 use Rattle.link_model.specs.Object.{object_of}
 use Rattle.link_model.specs.Places.{need_place}
+use Rattle.link_model.specs.Refusals.{tests}
 use Rattle.link_model.specs.Targets.{is_static}
+use Rattle.link_writes.specs.Linked.{written_sizes}
 use Rattle.link_sites.specs.Loaded.{IsModule, LoadedWord}
 use Rattle.link_means.specs.Means.{Means}
 
@@ -27,6 +31,13 @@ DescriptorsStand mode inputs l p m o =
     (a : ℕ) → Contains (all_needs mode inputs) (Descriptor a) → is_static mode ≡ true
     → LoadedWord l p m o (need_place mode inputs (Descriptor a)) (placed (p.maps m) a)
     × LoadedWord l p m o (need_place mode inputs (Descriptor a) + 4) (got_of p m)
+
+-- the bytes of a section are numbers below 256
+abbrev pub IsOfBytes : InputSection → Type 0
+IsOfBytes x = (k : ℕ) → get_or (x.section).filled k 0 < 256
+
+abbrev pub AreOfBytes : List RelObject → Type 0
+AreOfBytes inputs = All IsOfBytes (sections_of inputs)
 
 abbrev pub is_pair : Rel → Bool
 is_pair r = r.kind == R_ARM_FUNCDESC_VALUE
@@ -39,3 +50,9 @@ pub record IsLinked (mode : Mode) (soname : List ℕ) (inputs : List RelObject) 
   pub static : (l : Linkage) (p : Placing) (m : ℕ) → IsModule l p m (with_tables o) → DescriptorsStand mode inputs l p m (with_tables o)
   -- a function has one descriptor
   pub one_descriptor : AllPairs (λ r q. file_word o.segments r.site ≢ file_word o.segments q.site) (filter is_pair o.rels)
+
+-- the law of programs that stand alone, made of accepted files whose bytes are bytes
+abbrev pub LinkedMeansStatic : Type 0
+LinkedMeansStatic =
+    (mode : Mode) (soname : List ℕ) (inputs : List RelObject) (libs : List Lib) → is_static mode ≡ true → All IsRelSound inputs → AreOfBytes inputs
+    → first_failing (tests written_sizes mode soname inputs libs) ≡ None → IsLinked mode soname inputs libs (object_of mode soname inputs libs)

@@ -24,9 +24,9 @@ use Rattle.link_sites.specs.Meaning.{value_of_definition, descriptor_of_definiti
 
 -- ---- S
 
--- of what the object defines: its placed address, or a number
+-- of what the object defines: its link address, of 32 bits, as it is placed; or a number
 abbrev pub settled_value : Mode → List RelObject → Placing → ℕ → Spot → ℕ
-settled_value mode inputs p m spot = if is_absolute spot then address_of mode inputs spot else placed (p.maps m) (address_of mode inputs spot)
+settled_value mode inputs p m spot = if is_absolute spot then address_of mode inputs spot else placed (p.maps m) (address_of mode inputs spot % 2 ^ 32)
 
 -- what the loader finds for the name of a symbol
 abbrev pub definition_of_target : List RelObject → Linkage → ℕ → Object → Target → Definition

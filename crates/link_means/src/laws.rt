@@ -1,5 +1,6 @@
 //! What holds of linked objects after loading. A call of one does nothing.
 
+ghost use Rattle.link_means.specs.Linked.{LinkedMeansStatic};
 ghost use Rattle.link_means.specs.parts.Laws.{
   DistancesMean,
   IdleBranchesMean,
@@ -37,4 +38,10 @@ pub fn idle_branches_mean()
 /// A distance that the linker settles is that between the placed addresses.
 pub fn distances_mean()
     ensures { DistancesMean }
+{}
+
+/// A program that stands alone is linked: loading makes each relocation of its inputs mean what its kind says, wherever the
+/// program lies.
+pub fn linked_means_static()
+    ensures { LinkedMeansStatic }
 {}

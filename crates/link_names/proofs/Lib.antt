@@ -5,3 +5,4 @@ pub mod Prefixes
 pub mod Sections
 pub mod Tested
 pub mod Agreeing
+pub mod Finding

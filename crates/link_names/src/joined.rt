@@ -1,6 +1,7 @@
 //! The symbols of all inputs, joined.
 
-ghost use Rattle.std.specs.Prelude.{◌≡◌, ◌<◌, ◌≤◌, ◌^◌, length, map, All, Contains, IfOk, IfErr, slice_get, option_map};
+ghost use Rattle.std.specs.Prelude.{◌≡◌, ◌<◌, ◌≤◌, ◌^◌, length, map, find, All, Contains, IfOk, IfErr, slice_get, option_map};
+ghost use Rattle.std.specs.Str.{bytes_eq};
 ghost use Rattle.elf_model.specs.RelSound.{IsRelSound};
 ghost use Rattle.link_model.specs.declared.error.LinkErr.TheVariants.{Memory};
 ghost use Rattle.link_model.specs.Inputs as numbered;
@@ -118,6 +119,14 @@ impl<'a> Joined<'a> {
         self.targets.as_slice()[k]
     }
 
+    /// What the symbols of a name are together, where an input has one.
+    pub fn find(&self, name: &[u8]) -> Option<Target>
+        ensures { result ≡ option_map (spec.target_of_name self.now.mode self.now.inputs) (find (bytes_eq name.now) (names_of self.now.inputs)) }
+    {
+        let k = self.names.get_index_of(&name)?;
+        Some(self.targets.as_slice()[k])
+    }
+
     /// What a key stands for.
     pub fn target_of_key(&self, key: Key) -> Target
         requires { IsKey self.now.inputs key }
@@ -155,7 +164,8 @@ impl<'a> Joined<'a> {
 
     /// What the symbols of each name are together, by the numbers of the names.
     pub fn targets(&self) -> &[Target]
-        ensures { result.now ≡ spec.targets_of self.now.mode self.now.inputs }
+        ensures targets { result.now ≡ spec.targets_of self.now.mode self.now.inputs }
+        ensures few { length result.now < 2 ^ 32 }
     {
         self.targets.as_slice()
     }

@@ -10,3 +10,4 @@ mod refusals;
 mod target;
 
 pub use joined::{Joined, join};
+pub use mention::is_joined;

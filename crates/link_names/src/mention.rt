@@ -27,7 +27,7 @@ impl<'a> Model for Mention<'a> {
 }
 
 /// Whether a symbol is joined with others by name.
-pub(crate) fn is_joined(symbol: &Symbol) -> bool
+pub fn is_joined(symbol: &Symbol) -> bool
     ensures { result ≡ is_joined symbol.now }
 {
     symbol.binding != STB_LOCAL && symbol.kind != STT_SECTION

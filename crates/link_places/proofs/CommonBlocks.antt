@@ -1,16 +1,13 @@
 -- Where common blocks lie.
-use Rattle.std.proofs.Common.{◌≡◌, ℕ, ◌+◌, ◌<◌, cond, List, [], ◌∷◌, ◌++◌, length, get_or, take, map, Option, Some, None, refl, ap, sym, ◌∙◌}
-use Rattle.std.specs.Prelude.{◌==◌, filter, option_to_list}
-use Rattle.std.specs.List.{filter_map, cons_option}
-use Rattle.std.proofs.lemmas.List.{take_more}
-use Rattle.std.proofs.lemmas.List.Elements.{filter_map-append}
+use Rattle.std.proofs.Common.{◌≡◌, ℕ, ◌+◌, cond, List, [], ◌∷◌, map, refl, ap}
+use Rattle.std.specs.Prelude.{◌==◌, filter}
+use Rattle.std.specs.List.{filter_map}
 use Rattle.link_layout.specs.Layout.{aligned, end_of, place_of}
 use Rattle.link_model.specs.declared.target.Spot.{Spot}
 use Rattle.link_model.specs.declared.target.Spot.TheVariants.{Nowhere, Absolute, Section, Common}
 use Rattle.link_model.specs.declared.target.Target.{Target}
 use Rattle.link_model.specs.Places.{block_piece, is_block_of}
 use Rattle.link_model.specs.Targets.{is_block}
-use Rattle.link_places.specs.declared.lying.NumberedPiece.{NumberedPiece}
 use Rattle.link_places.specs.parts.Blocks.{block_of}
 use Rattle.link_places.specs.parts.Lying.{numbered_end, numbered_place}
 
@@ -43,13 +40,3 @@ blocks-place from k (t ∷ ts) = by t.spot refl (blocks-place from k ts) (blocks
     by Nowhere is here behind = rw is here
     by (Absolute v) is here behind = rw is here
     by (Section n o) is here behind = rw is here
-
-as_list : (o : Option NumberedPiece) → cons_option o [] ≡ option_to_list o
-as_list None = refl
-as_list (Some x) = refl
-
-pub one-block-more : (ts : List Target) (i : ℕ) (d : Target) (old new : List NumberedPiece) → i < length ts → old ≡ filter_map block_of (take i ts)
-    → new ≡ old ++ option_to_list (block_of (get_or ts i d)) → new ≡ filter_map block_of (take (i + 1) ts)
-one-block-more ts i d old new lt is put =
-    put ∙ ap (λ xs. xs ++ option_to_list (block_of (get_or ts i d))) is ∙ ap (λ xs. filter_map block_of (take i ts) ++ xs) (sym (as_list (block_of (get_or ts i d))))
-    ∙ sym (ap (filter_map block_of) (take_more ts i d lt) ∙ filter_map-append block_of (take i ts) (get_or ts i d ∷ []))

@@ -1,5 +1,7 @@
 pub mod Listing
+pub mod Kept
 pub mod Lays
+pub mod Gathered
 pub mod Sectioned
 pub mod Offsets
 pub mod Coded

@@ -1,7 +1,7 @@
 //! Where everything of a linked object lies.
 
-ghost use Rattle.std.specs.Prelude.{◌≡◌, ◌≤◌, ◌+◌, ◌^◌, IfOk};
-ghost use Rattle.link_model.specs.Needs.{all_needs};
+ghost use Rattle.std.specs.Prelude.{◌≡◌, ◌≤◌, ◌<◌, ◌+◌, ◌^◌, IfOk};
+ghost use Rattle.link_model.specs.Needs.{all_needs, slot_keys};
 ghost use Rattle.link_model.specs.Places as spec;
 ghost use Rattle.link_model.specs.Targets.{targets_of};
 ghost use Rattle.std.specs.List.{filter_map};
@@ -17,7 +17,7 @@ use crate::lying::Lying;
 use crate::needs::NeedTable;
 use crate::text::TextPlaces;
 use fd_base::Memory;
-use link_model::{Mode, Need, PLT_ENTRY_SIZE, SEGMENT_STEP, Spot, Target};
+use link_model::{Key, Mode, Need, PLT_ENTRY_SIZE, SEGMENT_STEP, Spot, Target};
 use std::alloc::Global;
 
 /// Where everything of a linked object lies. Link addresses are whole numbers, and may pass 32 bits.
@@ -36,9 +36,10 @@ pub struct Layout<'a> {
     pub ghost begin: { data_place ≡ spec.data_place mode text.inputs.now },
     pub ghost laid: { AreLaid (spec.got_end mode text.inputs.now) (data_heads (heads_of text.inputs.now)) places.lying },
     pub ghost shared: { ArePlaced (spec.zeros_end mode text.inputs.now) (filter_map block_of (targets_of mode text.inputs.now)) blocks },
-    pub ghost near: { places.lying.end ≤ 2 ^ 61 },
-    pub ghost blocks_near: { blocks.end ≤ 2 ^ 61 },
+    pub ghost near: { places.lying.end ≤ 2 ^ 60 + 2 ^ 42 },
+    pub ghost blocks_near: { blocks.end ≤ 2 ^ 60 + 2 ^ 42 },
     pub ghost begin_near: { data_place ≤ 2 ^ 60 + 2 ^ 41 },
+    pub ghost filled_near: { places.filled_end ≤ 2 ^ 60 + 2 ^ 42 },
     pub ghost filled: { places.filled_end ≡ spec.filled_end mode text.inputs.now },
 }
 
@@ -95,28 +96,63 @@ impl<'a> Layout<'a> {
 
     /// Where the text ends, with its PLT.
     pub fn text_end(&self) -> u64
-        ensures { result ≡ spec.text_end self.now.mode self.now.text.inputs.now }
+        ensures near { result < 2 ^ 61 }
+        ensures end { result ≡ spec.text_end self.now.mode self.now.text.inputs.now }
     {
         text_end(self.mode, &self.text, &self.needs)
     }
 
+    /// Where the first entry of the PLT stands, behind the sections of the text.
+    pub fn plt_place(&self) -> u64
+        ensures near { result < 2 ^ 61 }
+        ensures place { result ≡ spec.plt_place self.now.text.inputs.now }
+    {
+        plt_place(&self.text)
+    }
+
+    /// The symbols that have slots and entries of the PLT, by number of the slot.
+    pub fn slot_keys(&self) -> &[Key]
+        ensures { result.now ≡ slot_keys self.now.mode self.now.text.inputs.now }
+    {
+        self.needs.slot_keys()
+    }
+
+    /// The entry of the PLT of a symbol that has one.
+    pub fn plt_entry_of(&self, key: Key) -> u64
+        ensures near { result < 2 ^ 61 }
+        ensures place { result ≡ spec.plt_entry_of self.now.mode self.now.text.inputs.now key }
+    {
+        plt_place(&self.text) + u64::from(PLT_ENTRY_SIZE) * u64::from(self.needs.slot_number(key))
+    }
+
     /// Where the data begins, with the GOT.
     pub fn data_place(&self) -> u64
-        ensures { result ≡ spec.data_place self.now.mode self.now.text.inputs.now }
+        ensures near { result < 2 ^ 61 }
+        ensures place { result ≡ spec.data_place self.now.mode self.now.text.inputs.now }
     {
         self.data_place
     }
 
+    /// Where the GOT ends.
+    pub fn got_end(&self) -> u64
+        ensures near { result < 2 ^ 61 }
+        ensures end { result ≡ spec.got_end self.now.mode self.now.text.inputs.now }
+    {
+        self.data_place + u64::from(self.needs.got_size())
+    }
+
     /// Where the sections of the data end that the file has bytes of.
     pub fn filled_end(&self) -> u64
-        ensures { result ≡ spec.filled_end self.now.mode self.now.text.inputs.now }
+        ensures near { result < 2 ^ 61 }
+        ensures end { result ≡ spec.filled_end self.now.mode self.now.text.inputs.now }
     {
         self.places.filled_end
     }
 
     /// Where the sections of the data end.
     pub fn zeros_end(&self) -> u64
-        ensures { result ≡ spec.zeros_end self.now.mode self.now.text.inputs.now }
+        ensures near { result < 2 ^ 61 }
+        ensures end { result ≡ spec.zeros_end self.now.mode self.now.text.inputs.now }
     {
         self.places.lying.end
     }
@@ -124,7 +160,7 @@ impl<'a> Layout<'a> {
     /// The link address of the section of this number.
     pub fn section_place(&self, k: u32) -> u64
         ensures place { result ≡ spec.section_place self.now.mode self.now.text.inputs.now k }
-        ensures near { result ≤ 2 ^ 61 }
+        ensures near { result ≤ 2 ^ 60 + 2 ^ 42 }
     {
         if self.text.is_text_section(k) {
             self.text.place(k)
@@ -136,28 +172,31 @@ impl<'a> Layout<'a> {
     /// The link address of the common block of the name of this number.
     pub fn block_place(&self, k: u32) -> u64
         ensures place { result ≡ spec.block_place self.now.mode self.now.text.inputs.now k }
-        ensures near { result ≤ 2 ^ 61 }
+        ensures near { result ≤ 2 ^ 60 + 2 ^ 42 }
     {
         self.blocks.place(k)
     }
 
     /// Where the data ends, with its common blocks.
     pub fn data_end(&self) -> u64
-        ensures { result ≡ spec.data_end self.now.mode self.now.text.inputs.now }
+        ensures near { result < 2 ^ 61 }
+        ensures end { result ≡ spec.data_end self.now.mode self.now.text.inputs.now }
     {
         self.blocks.end
     }
 
     /// Where a need stands in the GOT, a link address.
     pub fn need_place(&self, need: Need) -> u64
-        ensures { result ≡ spec.need_place self.now.mode self.now.text.inputs.now need }
+        ensures near { result < 2 ^ 61 }
+        ensures place { result ≡ spec.need_place self.now.mode self.now.text.inputs.now need }
     {
         self.data_place + u64::from(self.needs.offset(need))
     }
 
     /// The link address of a definition, or the number that it is.
     pub fn address_of(&self, spot: Spot) -> u64
-        ensures { result ≡ spec.address_of self.now.mode self.now.text.inputs.now spot }
+        ensures near { result < 2 ^ 61 }
+        ensures address { result ≡ spec.address_of self.now.mode self.now.text.inputs.now spot }
     {
         match spot {
             Spot::Nowhere => 0,

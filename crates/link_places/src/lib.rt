@@ -4,6 +4,7 @@
 
 mod blocks;
 mod data;
+mod gather;
 mod got;
 mod heads;
 mod layout;
@@ -12,6 +13,7 @@ mod needs;
 mod text;
 mod wants;
 
+pub use gather::{gather_needs, is_dropped, is_own_undefined};
 pub use heads::{SectionHead, SectionHeads, section_heads};
 pub use layout::Layout;
 pub use needs::NeedTable;

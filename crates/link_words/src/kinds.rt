@@ -19,15 +19,15 @@ pub(crate) fn is_branch(kind: u8) -> bool
     )
 }
 
-/// Kinds that change nothing.
-pub(crate) fn is_idle(kind: u8) -> bool
+/// Whether relocations of a kind change nothing.
+pub fn is_idle(kind: u8) -> bool
     ensures { result ≡ needs.is_idle kind }
 {
     matches!(kind, elf::R_ARM_NONE | elf::R_ARM_V4BX)
 }
 
-/// Kinds of descriptors.
-pub(crate) fn is_function_kind(kind: u8) -> bool
+/// Whether relocations of a kind are of descriptors.
+pub fn is_function_kind(kind: u8) -> bool
     ensures { result ≡ needs.is_function_kind kind }
 {
     matches!(

@@ -21,8 +21,8 @@ pub(crate) fn is_nothing(reach: Reach) -> bool
     matches!(reach, Reach::Nothing)
 }
 
-/// The loader.
-pub(crate) fn is_dynamic(reach: Reach) -> bool
+/// Whether the loader settles a symbol.
+pub fn is_dynamic(reach: Reach) -> bool
     ensures { result ≡ spec.is_dynamic reach }
 {
     matches!(reach, Reach::Dynamic)
@@ -51,7 +51,7 @@ fn is_exported(t: &Target) -> bool
 }
 
 /// Whether the loader sees a symbol.
-pub(crate) fn is_shown(t: &Target) -> bool
+pub fn is_shown(t: &Target) -> bool
     ensures { result ≡ symbols.is_shown t.now }
 {
     if is_nowhere(t.spot) {

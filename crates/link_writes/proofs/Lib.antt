@@ -1,11 +1,11 @@
-mod Tested
+pub mod Tested
 mod Aligned
 mod Segmented
 mod Pairs
 mod Filled
 mod Sites
 mod Sounding
-mod Seen
+pub mod Seen
 mod Relocated
 mod Fields
 mod Writable

@@ -1,0 +1,6 @@
+pub mod Numbers
+pub mod Marks
+pub mod Passing
+pub mod Sections
+pub mod Gained
+pub mod Heads

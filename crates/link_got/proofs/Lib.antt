@@ -1,0 +1,4 @@
+pub mod Bounds
+pub mod Keyed
+pub mod OneLink
+pub mod Rows

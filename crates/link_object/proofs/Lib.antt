@@ -1,0 +1,9 @@
+mod Arrays
+mod Copied
+mod Filed
+mod Gathered
+mod Greatest
+mod Located
+mod Low
+mod Segmented
+mod Sorting
