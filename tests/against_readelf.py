@@ -1,6 +1,7 @@
 #!/usr/bin/env python3
-"""Compares what `show` prints of each object in a folder with what readelf says: its relocations and its symbols. Of a
-relocatable file it compares the whole listing: sections, relocations and symbols, line by line.
+"""Compares what `show` prints of each file in a folder with what readelf says, line by line: of a relocatable file its sections,
+relocations and symbols, of an object what it is, its segments, names, symbols, relocations and slots. Fixups and flags of an object
+are left out, and its GOT where its dynamic section doesn't tell it.
 
 usage: tests/against_readelf.py FOLDER
 
@@ -17,23 +18,8 @@ TOP = pathlib.Path(__file__).resolve().parent.parent
 PROGRAM = pathlib.Path(os.environ.get("FDPIC", TOP / "crates/fdpic/out/fdpic"))
 
 
-def lines(*words, folder):
-    ran = subprocess.run(words, cwd=folder, capture_output=True, text=True, check=True)
-    return [line.split() for line in ran.stdout.splitlines()]
-
-
-def relocations(shown, said):
-    """Site, kind and symbol of each, by both."""
-    ours = {(int(it[2], 16), int(it[3]), int(it[4])) for it in shown if it[0] in ("rel", "jmprel")}
-    rows = [it for it in said if len(it) > 2 and re.fullmatch("[0-9a-f]{8}", it[0]) and re.fullmatch("[0-9a-f]{8}", it[1])]
-    return ours, {(int(it[0], 16), int(it[1], 16) % 256, int(it[1], 16) // 256) for it in rows}
-
-
-def symbols(shown, said):
-    """Number, value, size, type, binding and visibility of each, by both."""
-    ours = [(int(it[1]), int(it[7], 16), int(it[8]), it[4], it[3], it[5]) for it in shown if it[0] == "symbol"]
-    rows = [it for it in said if it and re.fullmatch("[0-9]+:", it[0])]
-    return ours, [(int(it[0][:-1]), int(it[1], 16), int(it[2], 0), *(word.lower() for word in it[3:6])) for it in rows]
+def printed(*words):
+    return subprocess.run(words, capture_output=True, text=True, check=True).stdout.splitlines()
 
 
 KINDS = {"PROGBITS": 1, "NOTE": 7, "NOBITS": 8, "INIT_ARRAY": 14, "FINI_ARRAY": 15}
@@ -48,7 +34,7 @@ SYMBOL = re.compile(r" *(\d+): ([0-9a-f]{8}) +(\S+) (\S+) +(\S+) +(\S+) +(\S+) ?
 
 def relocatable(path):
     """The listing of a relocatable file, from what readelf says of it."""
-    said = subprocess.run(["readelf", "-aW", path], capture_output=True, text=True, check=True).stdout.splitlines()
+    said = printed("readelf", "-aW", path)
     headers = [it.groups() for it in map(SECTION.match, said) if it]
     kept, tables, at = {}, {}, None
     for index, name, kind, offset, size, flags, info, align in headers:
@@ -65,20 +51,62 @@ def relocatable(path):
             tables[at] += 1
     numbers = {index: number for number, index in enumerate(kept)}
     places = PLACES | {it[0]: f"section {numbers[it[0]]}" if it[0] in numbers else "dropped" for it in headers[1:]}
-    symbols = []
+    return ["relocatable", *(line for it in kept.values() for line in it), *symbols(said, places)]
+
+
+def symbols(said, places):
+    """The lines of the symbols, from readelf's."""
     for row in filter(None, map(SYMBOL.match, said)):
         number, value, size, kind, binding, visibility, index, name = row.groups()
         # readelf gives the symbol of a section the section's name
         name = "-" if kind == "SECTION" or not name else name
         words = " ".join(it.lower() for it in (binding, kind, visibility))
-        symbols.append(f"symbol {number} {name} {words} {places[index]} 0x{value} {int(size, 0)}")
-    return ["relocatable", *(line for it in kept.values() for line in it), *symbols]
+        yield f"symbol {number} {name} {words} {places.get(index, 'here')} 0x{value} {int(size, 0)}"
 
 
-def differs(path, folder):
-    """Whether the listing of a relocatable file is another one, and which line differs first."""
-    ours = subprocess.run([PROGRAM, "show", path.name], cwd=folder, capture_output=True, text=True, check=True).stdout.splitlines()
-    theirs = relocatable(path)
+TYPE = re.compile(r" *Type: +(EXEC|DYN) ")
+ENTRY = re.compile(r" *Entry point address: +0x([0-9a-f]+)$")
+SEGMENT = re.compile(r" *LOAD +0x[0-9a-f]+ (0x[0-9a-f]{8}) 0x[0-9a-f]{8} 0x([0-9a-f]+) 0x([0-9a-f]+) (.)(.)(.) (\S+)$")
+ENTRY_OF_DYNAMIC = re.compile(r" *0x[0-9a-f]{8} \((\w+)\) +(?:.*\[(.*)\]|0x([0-9a-f]+)|.*)$")
+TABLE = re.compile(r"'(REL|PLT)' relocation section at offset 0x[0-9a-f]+ contains")
+
+
+def object_listing(path):
+    """The listing of an object, from what readelf says of its headers and its dynamic section."""
+    said = printed("readelf", "-hldrsDW", path)
+    kind, entry = (next(filter(None, map(it.match, said)))[1] for it in (TYPE, ENTRY))
+    tags = [it.groups() for it in map(ENTRY_OF_DYNAMIC.match, said) if it]
+    got = next((f"{int(it[2], 16):08x}" for it in tags if it[0] == "PLTGOT"), None)
+    listing = [f"object {kind.lower()} entry 0x{int(entry, 16):08x}" + (f" got 0x{got}" if got else "")]
+    for number, row in enumerate(filter(None, map(SEGMENT.match, said))):
+        address, filled, size, *flags, align = row.groups()
+        flags = sum(bit for bit, letter in zip((4, 2, 1), flags) if letter != " ")
+        listing.append(f"segment {number} {address} 0x{int(filled, 16):08x} 0x{int(size, 16):08x} {flags} {int(align, 0)}")
+    listing += [f"needed {it[1]}" for it in tags if it[0] == "NEEDED"]
+    listing += [f"soname {it[1]}" for it in tags if it[0] == "SONAME"]
+    listing += symbols(said, PLACES)
+    tables, at = {"REL": [], "PLT": []}, None
+    for line in said:
+        if head := TABLE.match(line):
+            at = tables[head[1]]
+        elif (row := RELOCATION.match(line)) and at is not None:
+            at.append((int(row[1], 16), int(row[2], 16)))
+    for word, rows in zip(("rel", "jmprel"), tables.values()):
+        listing += [f"{word} {k} 0x{site:08x} {it % 256} {it // 256}" for k, (site, it) in enumerate(rows)]
+    return listing
+
+
+def shown(path):
+    """What `show` prints of a file, without what isn't compared."""
+    return [it for it in printed(PROGRAM, "show", path) if it.split(" ")[0] not in ("fixup", "flag")]
+
+
+def differs(path):
+    """Whether the listing of a file is another one, and which line differs first."""
+    ours = shown(path)
+    theirs = relocatable(path) if path.read_bytes()[16:18] == b"\x01\x00" else object_listing(path)
+    if " got " not in theirs[0]:
+        ours[0] = ours[0].split(" got ")[0]
     if ours == theirs:
         print(f"{path.name}: {len(ours)} lines agree")
         return False
@@ -88,22 +116,8 @@ def differs(path, folder):
 
 
 def main(folder):
-    differing = 0
-    for path in sorted(pathlib.Path(folder).iterdir()):
-        if not path.is_file() or path.read_bytes()[:4] != b"\x7fELF":
-            continue
-        if path.read_bytes()[16:18] == b"\x01\x00":
-            differing += differs(path, folder)
-            continue
-        shown = lines(PROGRAM, "show", path.name, folder=folder)
-        pairs = {
-            "relocations": relocations(shown, lines("readelf", "-rW", path.name, folder=folder)),
-            "symbols": symbols(shown, lines("readelf", "--dyn-syms", "-W", path.name, folder=folder)),
-        }
-        for what, (ours, theirs) in pairs.items():
-            differing += ours != theirs
-            print(f"{path.name}: {len(ours)} {what} {'agree' if ours == theirs else 'DIFFER'}")
-    return 1 if differing else 0
+    paths = [it for it in sorted(pathlib.Path(folder).iterdir()) if it.is_file() and it.read_bytes()[:4] == b"\x7fELF"]
+    return 1 if sum(map(differs, paths)) else 0
 
 
 if __name__ == "__main__":

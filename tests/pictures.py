@@ -11,6 +11,7 @@ import os
 import pathlib
 import re
 import resource
+import shutil
 import subprocess
 import sys
 import tempfile
@@ -578,24 +579,31 @@ def row_of(group):
     return Row(int(said["address"], 16), said["name"], said.get("flags", ""), said.get("linked", ""), size, said.get("note", ""))
 
 
-# The memory of examples/prog.job, by hand: the job has the addresses of the four segments, and examples/make.py their words.
-# `prog` has 12 words of text, and 80 + 12 + 80 bytes of data; `foo.so` has 2 words, and 64 + 8 + 48 bytes. 64 descriptor slots
-# of 8 bytes end at 0x3200, and 8 stacks of 1,024 begin at 0x100000 - 0x2000.
+# The memory of examples/prog.job, by hand: the job has the addresses of texts and data, and examples/foo.s and examples/prog.s
+# the words. `prog` has 2 words of text and 10 of a PLT entry; its data is the GOT: a header of 12 bytes, and a slot of 8. `foo.so`
+# has 2 words, and the header alone. Tables are placed at the least legal addresses, multiples of 16: those of `prog`, with 3 symbols,
+# are 8 words of hashes, 48 bytes of symbols, 19 of names, 8 of a relocation and 88 of the dynamic section, each at a multiple of 4;
+# those of `foo.so`, with 2 symbols, 6 words, 32, 12 and 64 bytes. 64 descriptor slots of 8 bytes end at 0x3200, and 8 stacks of
+# 1,024 begin at 0x100000 - 0x2000.
+EXAMPLE = ("as foo.o foo.s", "link foo.so shared foo.o", "as prog.o prog.s", "link prog program lib=foo.so prog.o")
 PROG_ROWS = [
     (0x0, "unused", "", "", 0x1000),
     (0x1000, "stubs", "r-x", "", 20),
     (0x1014, "unused", "", "", 0x3EC),
     (0x1400, "64 load maps", "r--", "", 0x1C00),
     (0x3000, "64 descriptor slots", "r--", "", 0x200),
-    (0x3200, "free", "", "", 0x1CE00),
+    (0x3200, "0 prog segment 2", "r--", "0x00011000", 196),
+    (0x32C4, "free", "", "", 0xC),
+    (0x32D0, "1 foo.so segment 2", "r--", "0x00011000", 132),
+    (0x3354, "free", "", "", 0x1CCAC),
     (0x20000, "0 prog segment 0", "r-x", "0x00000000", 48),
     (0x20030, "free", "", "", 0xFFD0),
-    (0x30000, "0 prog segment 1", "rw-", "0x00010000", 172),
-    (0x300AC, "free", "", "", 0xFF54),
+    (0x30000, "0 prog segment 1", "rw-", "0x00010000", 20),
+    (0x30014, "free", "", "", 0xFFEC),
     (0x40000, "1 foo.so segment 0", "r-x", "0x00000000", 8),
     (0x40008, "free", "", "", 0xFFF8),
-    (0x50000, "1 foo.so segment 1", "rw-", "0x00010000", 120),
-    (0x50078, "free", "", "", 0xADF88),
+    (0x50000, "1 foo.so segment 1", "rw-", "0x00010000", 12),
+    (0x5000C, "free", "", "", 0xADFF4),
     (0xFE000, "8 stacks of 1,024", "rw-", "", 0x2000),
 ]
 
@@ -623,7 +631,12 @@ class Memories(Pictures):
         return Memory(drawn("tools/memory", "--objects", REAL, "--fdpic", PROGRAM, f"{name}.job"))
 
     def test_listed_places(self):
-        picture = Memory(drawn("tools/memory", "--objects", "examples", "--fdpic", PROGRAM, "prog.job"))
+        with tempfile.TemporaryDirectory() as folder:
+            for name in ("foo.s", "prog.s", "prog.job"):
+                shutil.copy(TOP / "examples" / name, folder)
+            for words in EXAMPLE:
+                subprocess.run([PROGRAM, *words.split(" ")], cwd=folder, check=True)
+            picture = Memory(drawn("tools/memory", "--objects", folder, "--fdpic", PROGRAM, "prog.job"))
         self.assertEqual([(it.address, it.name, it.flags, it.linked, it.size) for it in picture.rows], PROG_ROWS)
         notes = [(it.name, it.note) for it in picture.rows if it.note]
         of_prog = ("0 prog segment 1", "GOT at 0x00030000, 1 slot from 0x0003000c")

@@ -17,22 +17,15 @@ ROOT = os.path.dirname(os.path.dirname(os.path.abspath(__file__)))
 TOP = "crates/fdpic_cmd/src/entry.rt"
 PAGE = "docs/TRUST.md"
 BEGIN, END = "<!-- made by tools/trust.py --write -->\n", "<!-- end -->\n"
-# Definitions that what is to be built next (the linker and the writers) will reach: they lie with the others.
+# Definitions that what is to be built next (library calls) will reach, and those of writers and laws: they lie with the others.
 AHEAD = {
     f"crates/{it}.antt"
     for it in (
-        "elf_model/specs/Hashed", "elf_model/specs/RelSound", "arm_relocs/specs/Branch", "rofixup/specs/Fixups",
-        "plt_code/specs/Table", "elf_write/specs/WritableRel", "elf_write/specs/Writes", "write_laws/specs/ReadBack",
-        "elf_write/specs/HashTable", "elf_write/specs/TableSegment", "elf_write/specs/ObjectFile",
-        "elf_write/specs/WritableObject", "write_laws/specs/ObjectReadBack",
-        "a32_text/specs/Printed", "a32_text/specs/Shown",
+        "rofixup/specs/Fixups", "plt_code/specs/Table", "elf_write/specs/WritableRel", "elf_write/specs/Writes",
+        "write_laws/specs/ReadBack", "write_laws/specs/ObjectReadBack", "a32_text/specs/Printed", "a32_text/specs/Shown",
         "a32_asm/specs/Assembles", "a32_asm/specs/AssembledIsWritable", "a32_asm/specs/Shown",
-        "link_layout/specs/Layout", "link_model/specs/DynamicRels", "link_model/specs/DynamicSymbols",
-        "link_model/specs/GotLayout", "link_model/specs/Inputs", "link_model/specs/Joined", "link_model/specs/Needs",
-        "link_model/specs/Object", "link_model/specs/Places", "link_model/specs/Refusals", "link_model/specs/Sections",
-        "link_model/specs/Segments", "link_model/specs/SiteTests", "link_model/specs/Sites", "link_model/specs/Targets",
-        "link_writes/specs/Linked", "link_sites/specs/Loaded", "link_sites/specs/Meaning", "link_means/specs/Values",
-        "link_means/specs/Means", "link_means/specs/Linked",
+        "load_removal/specs/Going", "load_removal/specs/TakenOut", "library_model/specs/Holding", "library_model/specs/Opens",
+        "library_model/specs/Searches", "library_model/specs/Closes",
     )
 }
 IMPORT = re.compile(r"\buse Rattle\.(\w+)\.specs\.([\w.]+?)(?:\.\{([^}]*)\})?(?: as \w+)?;?\s*$", re.M)

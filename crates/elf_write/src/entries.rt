@@ -4,7 +4,8 @@ ghost use Rattle.std.specs.Prelude.{◌≡◌, ◌++◌, ◌∷◌, [], ◌+◌,
 ghost use Rattle.elf_model.specs.declared.constants.TheConstants.{MAX_ENTRIES, MAX_NEEDED};
 ghost use Rattle.elf_model.specs.RelSound.{IsNameText};
 ghost use Rattle.elf_write.specs.TableSegment as spec;
-ghost use Rattle.elf_write.specs.parts.ObjectSizes.{entry_bytes, IsObjectSmall, IsTableOrder};
+ghost use Rattle.elf_write.specs.parts.SmallObject.{IsObjectSmall};
+ghost use Rattle.elf_write.specs.parts.ObjectSizes.{entry_bytes, IsTableOrder};
 
 use crate::strings::{symbol_strings_size, text_size};
 use crate::table_layout::{TableLayout, needed_place, strings_size};

@@ -20,5 +20,6 @@ mod writable;
 pub use error::WriteErr;
 pub use limits::{MAX_FILE_BYTES, MAX_WRITTEN_SECTIONS};
 pub use object_file::write_object;
+pub use object_layout::table_end;
 pub use rel_file::write_rel_object;
 pub use writable::is_writable_rel;

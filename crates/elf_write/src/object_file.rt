@@ -7,7 +7,8 @@ ghost use Rattle.elf_write.specs.TableSegment as table;
 ghost use Rattle.elf_write.specs.ObjectFile as spec;
 ghost use Rattle.elf_write.specs.Writes.{Writes};
 ghost use Rattle.elf_write.specs.WritableObject.{IsWritableObject};
-ghost use Rattle.elf_write.specs.parts.ObjectSizes.{IsSegmentSmall, AreSegmentsSmall, IsObjectSmall, IsPlaced, tables_load, dynamic_load, rofixup_place, names_place};
+ghost use Rattle.elf_write.specs.parts.SmallObject.{IsObjectSmall};
+ghost use Rattle.elf_write.specs.parts.ObjectSizes.{IsSegmentSmall, AreSegmentsSmall, IsPlaced, tables_load, dynamic_load, rofixup_place, names_place};
 
 use crate::error::WriteErr;
 use crate::header::FileHeader;

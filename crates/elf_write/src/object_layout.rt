@@ -4,10 +4,11 @@ ghost use Rattle.std.specs.Prelude.{◌≡◌, ◌+◌, ◌*◌, ◌^◌, ◌≤
 ghost use Rattle.elf_write.specs.TableSegment.{entries, init_entries, layout_of, dynamic_size, table_end};
 ghost use Rattle.elf_write.specs.TableSegment.{tables as spec_tables};
 ghost use Rattle.elf_write.specs.ObjectFile as spec;
-ghost use Rattle.elf_write.specs.parts.ObjectSizes.{AreSegmentsSmall, IsSegmentSmall, IsObjectSmall, IsTableOrder, IsFileLayout, size_from};
+ghost use Rattle.elf_write.specs.parts.SmallObject.{IsObjectSmall};
+ghost use Rattle.elf_write.specs.parts.ObjectSizes.{AreSegmentsSmall, IsSegmentSmall, IsTableOrder, IsFileLayout, size_from};
 
 use crate::rows::{aligned, offset_like};
-use crate::table_layout::TableLayout;
+use crate::table_layout::{TableLayout, layout_of};
 use elf_model::constants::{DYN_SIZE, EHDR_SIZE, PHDR_SIZE, SHDR_SIZE};
 use elf_model::{Inits, Object, Segment};
 
@@ -111,6 +112,15 @@ pub fn dynamic_size(object: &Object) -> u64
     ensures few { result ≤ 2048 }
 {
     u64::from(DYN_SIZE) * (entry_count(object) + 1)
+}
+
+/// The link address where the segment of tables of a written object would end. It may pass 32 bits: such an object isn't
+/// written.
+pub fn table_end(object: &Object) -> u64
+    requires { IsObjectSmall object.now }
+    ensures { result ≡ table_end object.entry.now }
+{
+    layout_of(object).dynamic + dynamic_size(object)
 }
 
 /// How many bytes the tables have.

@@ -6,7 +6,8 @@ ghost use Rattle.elf_model.specs.declared.constants.TheConstants.{MAX_NEEDED};
 ghost use Rattle.elf_model.specs.RelSound.{IsNameText};
 ghost use Rattle.elf_write.specs.Strings.{name_bytes};
 ghost use Rattle.elf_write.specs.TableSegment as spec;
-ghost use Rattle.elf_write.specs.parts.ObjectSizes.{IsObjectSmall, IsTableOrder};
+ghost use Rattle.elf_write.specs.parts.SmallObject.{IsObjectSmall};
+ghost use Rattle.elf_write.specs.parts.ObjectSizes.{IsTableOrder};
 
 use crate::hash_table::bucket_count;
 use crate::rows::aligned;

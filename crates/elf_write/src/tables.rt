@@ -8,7 +8,8 @@ ghost use Rattle.elf_write.specs.Words as word;
 ghost use Rattle.elf_write.specs.Strings.{name_bytes};
 ghost use Rattle.elf_write.specs.TableSegment as spec;
 ghost use Rattle.elf_write.specs.WritableObject.{IsWritableObject};
-ghost use Rattle.elf_write.specs.parts.ObjectSizes.{IsObjectSmall, IsSymbolPacked, IsTableOrder};
+ghost use Rattle.elf_write.specs.parts.SmallObject.{IsObjectSmall};
+ghost use Rattle.elf_write.specs.parts.ObjectSizes.{IsSymbolPacked, IsTableOrder};
 
 use crate::entries::put_entries;
 use crate::hash_table::put_hash;

@@ -11,11 +11,12 @@ use Rattle.fdpic_cmd.specs.declared.status.Failure.{Failure}
 use Rattle.fdpic_cmd.specs.declared.status.Failure.TheVariants.{Refused, StoreFault, Memory}
 use Rattle.fdpic_cmd.specs.declared.status.Refusal.{Refusal}
 use Rattle.fdpic_cmd.specs.declared.status.Refusal.TheVariants.{Asm, OutTooLong}
-use Rattle.fdpic_cmd.specs.Assemble.{short_file, file_of, put_as, AsMeans, Makes}
-use Rattle.fdpic_cmd.specs.Ended.{Puts, PutsFile}
-use Rattle.fdpic_cmd.specs.Files.{IsFile, Fetched}
-use Rattle.fdpic_cmd.specs.Outcome.{Outcome, refuses}
+use Rattle.fdpic_cmd.specs.Assemble.{short_file, file_of, AsMeans}
+use Rattle.fdpic_cmd.specs.Ended.{Makes, Puts}
+use Rattle.fdpic_cmd.specs.Files.{IsFile, Fetched, PutsBytes}
+use Rattle.fdpic_cmd.specs.Outcome.{Outcome, puts, refuses, put_as}
 use Rattle.fdpic_cmd.proofs.FoundFiles.{found, before_where, not_long}
+use Rattle.fdpic_cmd.proofs.PutFiles.{put_answers}
 
 -- ---- the file of a text
 
@@ -50,12 +51,17 @@ module _ (out input : List ℕ) where
       → AsMeans out input told (put_as out made)
   meant told text made file is = found told input text (IsPutAs out) (put_as out made) file (sym (ap (put_as out) is))
 
+  meant_put : (files : Option Files) (text bytes : List ℕ) → IfSome files (λ told. IsFile told input text) → file_of (assembled text) ≡ Ok bytes
+      → IfSome files (λ told. AsMeans out input told (puts out bytes))
+  meant_put None text bytes file is = tt
+  meant_put (Some told) text bytes file is = meant told text (Ok bytes) file is
+
   -- a file that is put is the one that the command means
-  pub put : (files mid later : Option Files) (text bytes : List ℕ) → mid ≡ files → IfSome files (λ told. IsFile told input text)
-      → file_of (assembled text) ≡ Ok bytes → later ≡ option_map (with_file out bytes) mid → IfSome files (PutsFile (AsMeans out input) out later)
-  put None mid later text bytes same file is put' = tt
-  put (Some told) mid later text bytes same file is put' =
-      record { bytes = bytes; meant = meant told text (Ok bytes) file is; put = put' ∙ ap (option_map (with_file out bytes)) same }
+  pub put : (files mid later : Option Files) (old between new : ℕ) (text bytes : List ℕ) (result : Result (Unit {0}) Failure) → mid ≡ files → old ≤ between → between ≤ new
+      → IfSome files (λ told. IsFile told input text) → file_of (assembled text) ≡ Ok bytes → PutsBytes mid later out bytes between new result
+      → Puts (AsMeans out input) out files later old new result
+  put files mid later old between new text bytes result same low high file is put' =
+      put_answers (AsMeans out input) out files mid later old between new bytes result same low high (meant_put files text bytes file is) put'
 
   meant_refusal : (files : Option Files) (text : List ℕ) (r : Refusal) → IfSome files (λ told. IsFile told input text) → file_of (assembled text) ≡ Err r
       → IfSome files (λ told. AsMeans out input told (refuses r))

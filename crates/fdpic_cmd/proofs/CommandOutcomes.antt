@@ -19,19 +19,20 @@ use Rattle.load_outcomes.specs.parts.Outcomes.{LoadComesTo}
 use Rattle.load_outcomes.proofs.EachLoad.{loads_come_to_lem}
 use Rattle.run_laws.specs.parts.RunLaws.{HasEnded}
 use Rattle.run_laws.proofs.RunsComeTo.{runs_come_to_lem}
-use Rattle.fdpic_cmd.specs.declared.command.Command.TheVariants.{As, Bind, BindJob, Code, Run, Show}
+use Rattle.fdpic_cmd.specs.declared.command.Command.TheVariants.{As, Bind, BindJob, Code, Link, Run, Show}
 use Rattle.fdpic_cmd.specs.declared.status.Refusal.{Refusal}
 use Rattle.fdpic_cmd.specs.declared.status.Refusal.TheVariants.{Job as NoJob, Load, TooLong, NoFile}
 use Rattle.fdpic_cmd.specs.declared.status.Status.{Status}
 use Rattle.fdpic_cmd.specs.declared.status.Status.TheVariants.{Done, Stopped}
 use Rattle.a32_asm.specs.Text.{assembled}
-use Rattle.fdpic_cmd.specs.Assemble.{AsMeans, file_of, put_as}
+use Rattle.fdpic_cmd.specs.Assemble.{AsMeans, file_of}
+use Rattle.fdpic_cmd.specs.Link.{linked_file}
 use Rattle.fdpic_cmd.specs.Bind.{plan_of, refusal_of}
 use Rattle.fdpic_cmd.specs.Files.{IsFile, OnFile, OnFound}
 use Rattle.fdpic_cmd.specs.Code.{code_listing}
 use Rattle.fdpic_cmd.specs.Jobs.{IsJobFile, JobMeans, OnJob, OnNoJob}
 use Rattle.elf_listing.specs.Shown.{listing_of}
-use Rattle.fdpic_cmd.specs.Outcome.{Outcome, refuses, writes}
+use Rattle.fdpic_cmd.specs.Outcome.{Outcome, refuses, writes, put_as}
 use Rattle.fdpic_cmd.specs.Program.{ProgramMeans}
 use Rattle.fdpic_cmd.specs.Run.{IsStatusOf, JobRunMeans}
 use Rattle.fdpic_cmd.specs.Show.{CodeMeans, ShowMeans, listed, shown_as}
@@ -127,6 +128,7 @@ commands_come_to_lem (BindJob file) told =
     job_comes_to told file (λ job o. ProgramMeans job.plan job.program Load told o)
     (λ job is. let fits = job_load told file job is in program_comes_to job.plan job.program Load told (loads_come_to_lem.programs job.plan told job.program fits.0 fits.1))
 commands_come_to_lem (Code file) told = code_comes_to told file
+commands_come_to_lem (Link out mode libs inputs) told = (put_as out (linked_file out mode libs inputs told), refl)
 commands_come_to_lem (Run file) told =
     job_comes_to told file (JobRunMeans told) (λ job is. let fits = job_load told file job is in run_comes_to told job fits.0 fits.1)
 commands_come_to_lem (Show file) told = show_comes_to told file

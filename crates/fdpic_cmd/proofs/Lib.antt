@@ -7,9 +7,11 @@ pub mod CommandOutcomes
 pub mod FoundFiles
 pub mod JobFiles
 pub mod JournalCalls
+pub mod LinkedFiles
 pub mod OpenedObjects
 pub mod OutcomesAgree
-pub mod ShownFiles
-pub mod SlotListings
+pub mod PutFiles
 pub mod RunCommand
+pub mod ShownFiles
 pub mod SlotLines
+pub mod SlotListings

@@ -13,10 +13,11 @@ use Rattle.run_model.specs.declared.thread.Turned.TheVariants as turned
 use Rattle.run_model.specs.Courses.{Course}
 use Rattle.run_model.specs.Report.{report_of}
 use Rattle.fdpic_cmd.specs.declared.command.Command.{Command}
-use Rattle.fdpic_cmd.specs.declared.command.Command.TheVariants.{As, Bind, BindJob, Code, Run, Show}
-use Rattle.fdpic_cmd.specs.Outcome.{Outcome, writes, refuses}
+use Rattle.fdpic_cmd.specs.declared.command.Command.TheVariants.{As, Bind, BindJob, Code, Link, Run, Show}
+use Rattle.fdpic_cmd.specs.Outcome.{Outcome, writes, refuses, put_as}
 use Rattle.a32_asm.specs.Text.{assembled}
-use Rattle.fdpic_cmd.specs.Assemble.{AsMeans, file_of, put_as}
+use Rattle.fdpic_cmd.specs.Assemble.{AsMeans, file_of}
+use Rattle.fdpic_cmd.specs.Link.{linked_file}
 use Rattle.fdpic_cmd.specs.Bind.{plan_of, refusal_of}
 use Rattle.fdpic_cmd.specs.Jobs.{OnJob, OnNoJob, JobMeans}
 use Rattle.fdpic_cmd.specs.Program.{ProgramMeans}
@@ -126,5 +127,6 @@ agrees (Bind file text data') told a b p q = program_agrees (plan_of file text d
 agrees (BindJob file) told a b p q =
     in_file (λ job o. ProgramMeans job.plan job.program Load told o) (λ job a b p q. program_agrees job.plan job.program Load told a b p q) file told a b p q
 agrees (Code file) told a b p q = code_agrees file told a b p q
+agrees (Link out mode libs inputs) told a b p q = agree_same a b (put_as out (linked_file out mode libs inputs told)) p q
 agrees (Run file) told a b p q = in_file (JobRunMeans told) (run_agrees told) file told a b p q
 agrees (Show file) told a b p q = show_agrees file told a b p q

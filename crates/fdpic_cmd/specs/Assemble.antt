@@ -6,12 +6,10 @@ use Rattle.elf_write.specs.declared.limits.TheConstants.{MAX_FILE_BYTES}
 use Rattle.elf_write.specs.RelFile.{rel_file}
 use Rattle.a32_asm.specs.declared.refusal.AsmRefusal.{AsmRefusal}
 use Rattle.a32_asm.specs.Text.{assembled}
-use Rattle.fdpic_cmd.specs.declared.status.Failure.{Failure}
-use Rattle.fdpic_cmd.specs.declared.status.Failure.TheVariants.{Refused, StoreFault, Memory}
 use Rattle.fdpic_cmd.specs.declared.status.Refusal.{Refusal}
 use Rattle.fdpic_cmd.specs.declared.status.Refusal.TheVariants.{Asm, OutTooLong}
 use Rattle.fdpic_cmd.specs.Files.{OnFile}
-use Rattle.fdpic_cmd.specs.Outcome.{Outcome, puts, refuses}
+use Rattle.fdpic_cmd.specs.Outcome.{Outcome, put_as}
 
 -- the bytes of a file that is to be put, unless they are too many
 abbrev pub short_file : List ℕ → Result (List ℕ) Refusal
@@ -22,19 +20,6 @@ abbrev pub file_of : Result RelObject AsmRefusal → Result (List ℕ) Refusal
 file_of (Ok object) = short_file (rel_file object)
 file_of (Err refusal) = Err (Asm refusal)
 
-abbrev pub put_as : List ℕ → Result (List ℕ) Refusal → Outcome
-put_as out (Ok bytes) = puts out bytes
-put_as out (Err refusal) = refuses refusal
-
 -- as OUT IN
 abbrev pub AsMeans : List ℕ → List ℕ → Files → Outcome → Type 0
 AsMeans out input told o = OnFile told input (λ text o. o ≡ put_as out (file_of (assembled text))) o
-
--- ---- what the parts of the program answer
-
--- the file that is wanted, or why there is none
-abbrev pub Makes : Result (List ℕ) Refusal → Result (List ℕ) Failure → Type 0
-Makes wanted (Ok bytes) = wanted ≡ Ok bytes
-Makes wanted (Err (Refused refusal)) = wanted ≡ Err refusal
-Makes wanted (Err StoreFault) = ⊥
-Makes wanted (Err Memory) = Unit {0}

@@ -90,6 +90,20 @@ Gives means files old new (Err (Refuses r)) = IfSome files (λ told. means told 
 Gives means files old new (Err Fails) = Rose old new
 Gives means files old new (Err Lacks) = Unit {0}
 
+-- the file that is wanted, or why there is none
+abbrev pub Makes : Result (List ℕ) Refusal → Result (List ℕ) Failure → Type 0
+Makes wanted (Ok bytes) = wanted ≡ Ok bytes
+Makes wanted (Err (Refuses r)) = wanted ≡ Err r
+Makes wanted (Err Fails) = ⊥
+Makes wanted (Err Lacks) = Unit {0}
+
+-- the answer of a part that makes something of the files: what is wanted of them, or why there is none
+abbrev pub Reads : {X : Type 0} → (Files → Result X Refusal) → Option Files → ℕ → ℕ → Result X Failure → Type 0
+Reads wanted files old new (Ok x) = IfSome files (λ told. wanted told ≡ Ok x)
+Reads wanted files old new (Err (Refuses r)) = IfSome files (λ told. wanted told ≡ Err r)
+Reads wanted files old new (Err Fails) = Rose old new
+Reads wanted files old new (Err Lacks) = Unit {0}
+
 -- a file was put, as the command means
 pub record PutsFile (means : Files → Outcome → Type 0) (name : List ℕ) (later : Option Files) (told : Files) : Type 0 where
   pub bytes : List ℕ

@@ -1,8 +1,8 @@
 -- A file that the words name.
-use Rattle.std.specs.Prelude.{◌≡◌, ℕ, ◌≤◌, List, length, Option, Some, None, Result, Ok, Err, IfSome, MatchBool, nat_lt}
+use Rattle.std.specs.Prelude.{◌≡◌, ℕ, ◌≤◌, List, length, Option, Some, None, Result, Ok, Err, IfSome, MatchBool, nat_lt, option_map}
 use Rattle.std.specs.FinMap.{get}
 use Rattle.fd_base.specs.declared.store.TheConstants.{MAX_FILE}
-use Rattle.fd_base.specs.Fetched.{Files}
+use Rattle.fd_base.specs.Fetched.{Files, ChangesOnly, with_file}
 use Rattle.fd_base.specs.Faults.{Rose}
 use Rattle.fdpic_cmd.specs.declared.status.Failure.{Failure}
 use Rattle.fdpic_cmd.specs.declared.status.Failure.TheVariants.{Refused, StoreFault, Memory}
@@ -32,3 +32,10 @@ Fetched files name old new (Ok bytes) = IfSome files (λ told. IsFile told name 
 Fetched files name old new (Err (Refused r)) = IfSome files (λ told. OnFile told name Never (refuses r))
 Fetched files name old new (Err StoreFault) = Rose old new
 Fetched files name old new (Err Memory) = Unit {0}
+
+-- what putting these bytes as a file answers
+abbrev pub PutsBytes : Option Files → Option Files → List ℕ → List ℕ → ℕ → ℕ → Result (Unit {0}) Failure → Type 0
+PutsBytes files later name bytes old new (Ok done) = later ≡ option_map (with_file name bytes) files
+PutsBytes files later name bytes old new (Err (Refused r)) = ⊥
+PutsBytes files later name bytes old new (Err StoreFault) = Rose old new × ChangesOnly name files later
+PutsBytes files later name bytes old new (Err Memory) = later ≡ files

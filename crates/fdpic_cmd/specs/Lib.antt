@@ -8,6 +8,8 @@ pub mod Files
 pub mod Forms
 pub mod Jobs
 pub mod Lines
+pub mod Link
+pub mod Linked
 pub mod Meaning
 pub mod Outcome
 pub mod Program

@@ -7,11 +7,14 @@ use Rattle.elf_model.specs.declared.refusal.ElfRefusal.{ElfRefusal}
 use Rattle.fdpic_cmd.specs.declared.status.Status.{Status}
 use Rattle.fdpic_cmd.specs.declared.status.Status.TheVariants.{Done, Memory, Words, StoreFault, SinkFault, Refused, Stopped}
 use Rattle.fdpic_cmd.specs.declared.status.Refusal.{Refusal}
-use Rattle.fdpic_cmd.specs.declared.status.Refusal.TheVariants.{Elf as NoObject, NoFile as NoSuchFile, TooLong as FileTooLong, Job, Asm, OutTooLong, Load}
+use Rattle.fdpic_cmd.specs.declared.status.Refusal.TheVariants.{Elf as NoObject, NoFile as NoSuchFile, TooLong as FileTooLong, Job, Asm, Link, OutTooLong, Load}
 use Rattle.load_model.specs.declared.error.LoadRefusal.{LoadRefusal}
 use Rattle.load_model.specs.declared.error.LoadRefusal.TheVariants.{NotBuilt, Elf, NoFile, TooLong, TooManyModules, Unresolved, NotCode, DescriptorsFull, NoRoom, BadAddress}
 use Rattle.job_text.specs.declared.refusal.JobKind.{JobKind}
 use Rattle.job_text.specs.declared.refusal.JobKind.TheVariants.{First, Word, Form, Range, Twice, TooMany as TooManyLines, NoProgram, Small}
+use Rattle.link_model.specs.declared.error.Site.{Site}
+use Rattle.link_model.specs.declared.error.LinkRefusal.{LinkRefusal}
+use Rattle.link_model.specs.declared.error.LinkRefusal.TheVariants as link
 use Rattle.a32_text.specs.declared.refusal.AsmKind.{AsmKind}
 use Rattle.a32_text.specs.declared.refusal.AsmKind.TheVariants as asm
 use Rattle.fd_base.specs.Fields.{decimal_field, hex_field, name_field}
@@ -83,6 +86,22 @@ asm_word asm.LineLong = codes "LineLong"
 abbrev pub line_text : List ℕ → List ℕ → ℕ → List ℕ
 line_text word kind line = word ++ kind ++ codes " line " ++ decimal line
 
+-- a relocation's input, section and offset
+abbrev pub site_text : Site → List ℕ
+site_text s = decimal_field s.input ++ decimal_field s.section ++ decimal_field s.offset
+
+-- what is said of a refused link: the word of its kind, and its fields in order
+unfoldable pub link_text : LinkRefusal → List ℕ
+link_text (link.Elf k) = codes "Elf" ++ decimal_field k
+link_text (link.Twice name) = codes "Twice " ++ shown name
+link_text (link.Undefined name) = codes "Undefined " ++ shown name
+link_text (link.CrossSegment s) = codes "CrossSegment" ++ site_text s
+link_text (link.RelocType s) = codes "RelocType" ++ site_text s
+link_text (link.ThumbBranch s) = codes "ThumbBranch" ++ site_text s
+link_text link.NoEntry = codes "NoEntry"
+link_text link.TooLarge = codes "TooLarge"
+link_text (link.LibElf k) = codes "LibElf" ++ decimal_field k
+
 -- what is said of a refusal
 unfoldable pub refusal_text : Refusal → List ℕ
 refusal_text (NoObject name e) = shown name ++ codes " elf " ++ test_text e
@@ -90,6 +109,7 @@ refusal_text (NoSuchFile name) = codes "no file " ++ shown name
 refusal_text (FileTooLong name) = codes "too long " ++ shown name
 refusal_text (Job line kind) = line_text (codes "job ") (job_word kind) line
 refusal_text (Asm r) = line_text (codes "asm ") (asm_word r.kind) r.line
+refusal_text (Link r) = codes "link " ++ link_text r
 refusal_text (OutTooLong n) = codes "output too long" ++ decimal_field n
 refusal_text (Load r) = codes "load " ++ load_text r
 

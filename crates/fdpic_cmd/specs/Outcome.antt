@@ -1,5 +1,5 @@
 -- What a command comes to where nothing outside fails.
-use Rattle.std.specs.Prelude.{ℕ, List, [], Option, Some, None}
+use Rattle.std.specs.Prelude.{ℕ, List, [], Option, Some, None, Result, Ok, Err}
 use Rattle.fdpic_cmd.specs.declared.status.Status.{Status}
 use Rattle.fdpic_cmd.specs.declared.status.Status.TheVariants.{Done, Refused}
 use Rattle.fdpic_cmd.specs.declared.status.Refusal.{Refusal}
@@ -26,3 +26,8 @@ puts name bytes = record { status = Done; text = []; output = Some (record { nam
 -- the command is refused, and nothing is written
 abbrev pub refuses : Refusal → Outcome
 refuses r = record { status = Refused r; text = []; output = None }
+
+-- the file that is made is put, or the command is refused
+abbrev pub put_as : List ℕ → Result (List ℕ) Refusal → Outcome
+put_as out (Ok bytes) = puts out bytes
+put_as out (Err refusal) = refuses refusal

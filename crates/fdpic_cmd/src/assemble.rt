@@ -5,19 +5,19 @@ ghost use Rattle.fd_base.specs.declared.store.TheConstants.{MAX_FILE};
 ghost use Rattle.fd_base.specs.Fetched.{ChangesOnly};
 ghost use Rattle.a32_asm.specs.Text.{assembled};
 ghost use Rattle.fdpic_cmd.specs.Assemble as spec;
-ghost use Rattle.fdpic_cmd.specs.Ended.{Puts};
+ghost use Rattle.fdpic_cmd.specs.Ended.{Makes, Puts};
 
-use crate::files::fetched;
+use crate::files::{fetched, put};
 use crate::status::{Failure, Refusal};
 use a32_asm::{AsmErr, assemble};
-use fd_base::{Bytes, Name, PutErr, Store};
+use fd_base::{Bytes, Name, Store};
 use std::alloc::Global;
 
 /// The relocatable file of a text.
 #[tactic(auto, using(crate::proofs::AssembledFiles::made, crate::proofs::AssembledFiles::too_long, crate::proofs::AssembledFiles::refused))]
 fn file_of(alloc: Global, text: &[u8]) -> Result<Bytes, Failure>
     requires { length text.now ≤ MAX_FILE }
-    ensures { spec.Makes (spec.file_of (assembled text.now)) result }
+    ensures { Makes (spec.file_of (assembled text.now)) result }
 {
     match assemble(alloc, text) {
         Ok(bytes) => Ok(bytes),
@@ -41,9 +41,5 @@ pub fn put_assembled<S: Store>(
 {
     let text = fetched(alloc, store, input)?;
     let bytes = file_of(alloc, text.as_slice())?;
-    match store.put(out, bytes.as_slice()) {
-        Ok(()) => Ok(()),
-        Err(PutErr::Failed) => Err(Failure::StoreFault),
-        Err(PutErr::Memory) => Err(Failure::Memory),
-    }
+    put(store, out, bytes.as_slice())
 }

@@ -5,30 +5,57 @@ ghost use Rattle.fd_base.specs.Texts.{number_of};
 ghost use Rattle.fdpic_cmd.specs.declared.command.Command.TheVariants.{BindJob};
 ghost use Rattle.fdpic_cmd.specs.Forms as forms;
 
-use fd_base::{Bytes, Memory, Name, NameErr, number};
+use crate::link_form::link_of;
+use fd_base::{Bytes, Memory, Name, NameErr, Seq, number};
+use link_model::Mode;
 use std::alloc::{AllocError, Global};
+
+/// Names of files.
+pub type Names = Seq<Name>;
 
 /// A command with its words.
 #[derive(Drop)]
 pub enum Command {
     /// `as OUT IN`: assembles the text in file IN, and puts its relocatable file as OUT.
-    As { out: Name, input: Name },
+    As {
+        out: Name,
+        input: Name,
+    },
     /// `bind F TEXT DATA`: loads the program in file F, with its first two segments placed at these addresses,
     /// and prints the slots of its process.
-    Bind { file: Name, text: u32, data: u32 },
+    Bind {
+        file: Name,
+        text: u32,
+        data: u32,
+    },
     /// `bind JOB`: loads the program of the job in this file, and prints the slots of its process.
-    BindJob { job: Name },
+    BindJob {
+        job: Name,
+    },
     /// `code F`: prints the words of the executable segments of the object in file F.
-    Code { file: Name },
+    Code {
+        file: Name,
+    },
+    /// `link OUT MODE [lib=F].. IN..`: links the relocatable files IN, over the libraries F, and puts the object as OUT.
+    Link {
+        out: Name,
+        mode: Mode,
+        libs: Names,
+        inputs: Names,
+    },
     /// `run JOB`: loads the program of the job in this file and runs it, and prints the report of the run.
-    Run { job: Name },
+    Run {
+        job: Name,
+    },
     /// `show F`: prints what the relocatable file or the object in file F holds.
-    Show { file: Name },
+    Show {
+        file: Name,
+    },
 }
 
 /// A word as the name of a file, where it is one.
 #[tactic(auto, unfolding(crate::specs::Forms::name_of))]
-fn name_of(alloc: Global, word: &[u8]) -> Result<Option<Name>, Memory>
+pub(crate) fn name_of(alloc: Global, word: &[u8]) -> Result<Option<Name>, Memory>
     ensures { IfOk result (λ name. name ≡ forms.name_of word.now) }
 {
     match Name::new(alloc, word) {
@@ -151,6 +178,8 @@ pub fn command_of(alloc: Global, words: &[Bytes]) -> Result<Option<Command>, Mem
         bind_of(alloc, rest)
     } else if verb.as_slice() == b"code".as_slice() {
         code_of(alloc, rest)
+    } else if verb.as_slice() == b"link".as_slice() {
+        link_of(alloc, rest)
     } else if verb.as_slice() == b"run".as_slice() {
         run_of(alloc, rest)
     } else if verb.as_slice() == b"show".as_slice() {

@@ -9,7 +9,9 @@ ghost use Rattle.fdpic_cmd.specs.Calls.{RanWithCalls};
 ghost use Rattle.fdpic_cmd.specs.Meaning.{Means, target, is_at_once};
 ghost use Rattle.fdpic_cmd.specs.Forms.{command_of};
 ghost use Rattle.fdpic_cmd.specs.Answers.{Answers, KeepsFiles, ChangesIfDone, IsStatus, Reports, WordsMean, Yields, StaysUnless, at_once, IsEnded};
-ghost use Rattle.fdpic_cmd.specs.declared.command.Command.TheVariants.{Run};
+ghost use Rattle.fdpic_cmd.specs.declared.command.Command.TheVariants.{Link, Run};
+ghost use Rattle.link_model.specs.declared.input.Mode.{Mode};
+ghost use Rattle.fdpic_cmd.specs.Linked.{PutLinked};
 ghost use Rattle.fdpic_cmd.specs.declared.status.Refusal.{Refusal};
 ghost use Rattle.fdpic_cmd.specs.Outcome.{Outcome, refuses};
 
@@ -18,6 +20,7 @@ use crate::bind::bind;
 use crate::command::{Command, command_of};
 use crate::job::bind_job;
 use crate::line::line;
+use crate::link::put_linked;
 use crate::run::run_job;
 use crate::show::{code, show};
 use crate::status::{Failure, Status, failed, put_status};
@@ -60,6 +63,8 @@ fn perform<S: Store, O: Sink>(
     ensures ends { let old = outside (S.files store.old) (S.faults store.old) (O.bytes out.old) (O.faults out.old) in
         let new = outside (S.files store.new) (S.faults store.new) (O.bytes out.new) (O.faults out.new) in
         Ends (is_at_once command.now) (Means command.now) old new result }
+    ensures linked { (name : List ℕ) (mode : Mode) (libs inputs : List (List ℕ)) → command.now ≡ Link name mode libs inputs → result ≡ Status.Done
+        → IfSome (S.files store.old) (PutLinked name mode libs inputs (S.files store.new)) }
     ensures stays { result ≡ Status.StoreFault → O.bytes out.new ≡ O.bytes out.old }
     ensures files { KeepsOthers (target command.now) (S.files store.old) (S.files store.new) }
     ensures unchanged { ChangesIfDone result (S.files store.old) (S.files store.new) (S.faults store.old) (S.faults store.new) }
@@ -83,6 +88,15 @@ fn perform<S: Store, O: Sink>(
             let text = code(alloc, store, file);
             say(out, text)
         }
+        Command::Link {
+            out: name,
+            mode,
+            libs,
+            inputs,
+        } => {
+            let done = put_linked(alloc, store, name, *mode, libs, inputs);
+            put_status(done)
+        }
         Command::Run { job } => run_job(alloc, store, job, out),
         Command::Show { file } => {
             let text = show(alloc, store, file);
@@ -98,6 +112,8 @@ fn answer<S: Store, O: Sink>(alloc: Global, words: &[Bytes], store: &mut S, out:
         let new = outside (S.files store.new) (S.faults store.new) (O.bytes out.new) (O.faults out.new) in
         Answers (command_of words.now) old new result }
     ensures untouched { command_of words.now ≡ None → (store.new ≡ store.old) × (out.new ≡ out.old) }
+    ensures linked { (name : List ℕ) (mode : Mode) (libs inputs : List (List ℕ)) → command_of words.now ≡ Some (Link name mode libs inputs)
+        → result ≡ Status.Done → IfSome (S.files store.old) (PutLinked name mode libs inputs (S.files store.new)) }
     ensures stays { result ≡ Status.StoreFault → O.bytes out.new ≡ O.bytes out.old }
     ensures files { KeepsFiles (command_of words.now) (S.files store.old) (S.files store.new) }
     ensures unchanged { ChangesIfDone result (S.files store.old) (S.files store.new) (S.faults store.old) (S.faults store.new) }
@@ -163,6 +179,9 @@ pub fn top<S: Store, O: Sink, E: Sink>(
     // arrives.
     ensures calls { kind_of result ≡ own → (file : List ℕ) → command_of words.now ≡ Some (Run file)
         → IfSome (S.files store.old) (RanWithCalls file (O.bytes out.old) (O.bytes out.new) result) }
+    // Where the words are `link OUT MODE [lib=F].. IN..`, the file that was put is that of the linked object, and is read as it.
+    ensures linked { (name : List ℕ) (mode : Mode) (libs inputs : List (List ℕ)) → command_of words.now ≡ Some (Link name mode libs inputs)
+        → result ≡ Status.Done → IfSome (S.files store.old) (PutLinked name mode libs inputs (S.files store.new)) }
     // Whatever the status, out grew by a prefix of the command's text; with most by nothing.
     ensures part { (told : Files) → S.files store.old ≡ Some told → (o : Outcome) → WordsMean words.now told o
         → GrewByPart (O.bytes out.old) (O.bytes out.new) o.text }

@@ -3,13 +3,14 @@
 ghost use Rattle.std.specs.Prelude.{◌≡◌, ◌≤◌, IfOk, IfErr, IfSome, length};
 ghost use Rattle.elf_model.specs.Sound.{IsSound};
 ghost use Rattle.fd_base.specs.declared.store.TheConstants.{MAX_FILE};
-ghost use Rattle.fdpic_cmd.specs.Files.{Fetched};
+ghost use Rattle.fd_base.specs.Fetched.{ChangesOnly};
+ghost use Rattle.fdpic_cmd.specs.Files.{Fetched, PutsBytes};
 ghost use Rattle.fdpic_cmd.specs.Show.{Opens};
 
 use crate::status::{Failure, Refusal};
 use elf_model::Object;
 use elf_read::{ReadErr, read_object};
-use fd_base::{Bytes, FetchErr, Name, Store};
+use fd_base::{Bytes, FetchErr, Name, PutErr, Store};
 use std::alloc::Global;
 
 /// The bytes of a file.
@@ -25,6 +26,20 @@ pub fn fetched<S: Store>(alloc: Global, store: &mut S, name: &Name) -> Result<By
         Err(FetchErr::Memory) => Err(Failure::Memory),
         Ok(None) => Err(Failure::Refused(Refusal::NoFile(name.copy(alloc)?))),
         Ok(Some(bytes)) => Ok(bytes),
+    }
+}
+
+/// Makes a file hold these bytes.
+#[tactic(auto, using(fd_base::proofs::Changing::same_others, fd_base::proofs::Changing::put_keeps_others))]
+pub fn put<S: Store>(store: &mut S, name: &Name, bytes: &[u8]) -> Result<(), Failure>
+    ensures answer { PutsBytes (S.files store.old) (S.files store.new) name.now bytes.now (S.faults store.old) (S.faults store.new) result }
+    ensures others { ChangesOnly name.now (S.files store.old) (S.files store.new) }
+    ensures count { S.faults store.old ≤ S.faults store.new }
+{
+    match store.put(name, bytes) {
+        Ok(()) => Ok(()),
+        Err(PutErr::Failed) => Err(Failure::StoreFault),
+        Err(PutErr::Memory) => Err(Failure::Memory),
     }
 }
 

@@ -11,6 +11,8 @@ mod files;
 mod job;
 mod laws;
 mod line;
+mod link;
+mod link_form;
 mod program;
 mod run;
 mod show;

@@ -13,6 +13,7 @@ use fd_base::{
     put_name_field, put_shown,
 };
 use job_text::JobKind;
+use link_model::{LinkRefusal, Site};
 use load_model::LoadRefusal;
 use std::alloc::Global;
 
@@ -156,6 +157,34 @@ fn put_load(out: &mut Bytes, refusal: &LoadRefusal) -> Result<(), Memory>
     }
 }
 
+/// Puts a word, and the input, the section and the offset of a relocation.
+fn put_site(out: &mut Bytes, word: &[u8], site: Site) -> Result<(), Memory>
+    ensures { OnOk result (out.new ≡ out.old ++ (word.now ++ spec.site_text site)) }
+{
+    out.extend_from_slice(word)?;
+    put_decimal_field(out, site.input)?;
+    put_decimal_field(out, site.section)?;
+    put_decimal_field(out, site.offset)
+}
+
+/// Puts what is said of a refused link.
+#[tactic(auto, unfolding(crate::specs::Lines::link_text))]
+fn put_link(out: &mut Bytes, refusal: &LinkRefusal) -> Result<(), Memory>
+    ensures { OnOk result (out.new ≡ out.old ++ spec.link_text refusal.now) }
+{
+    match refusal {
+        LinkRefusal::Elf(input) => put_counted(out, b"Elf", *input),
+        LinkRefusal::Twice(name) => put_named(out, b"Twice ", name),
+        LinkRefusal::Undefined(name) => put_named(out, b"Undefined ", name),
+        LinkRefusal::CrossSegment(site) => put_site(out, b"CrossSegment", *site),
+        LinkRefusal::RelocType(site) => put_site(out, b"RelocType", *site),
+        LinkRefusal::ThumbBranch(site) => put_site(out, b"ThumbBranch", *site),
+        LinkRefusal::NoEntry => out.extend_from_slice(b"NoEntry"),
+        LinkRefusal::TooLarge => out.extend_from_slice(b"TooLarge"),
+        LinkRefusal::LibElf(lib) => put_counted(out, b"LibElf", *lib),
+    }
+}
+
 /// Puts what is said of a refusal.
 #[tactic(auto, unfolding(crate::specs::Lines::refusal_text))]
 fn put_refusal(out: &mut Bytes, refusal: &Refusal) -> Result<(), Memory>
@@ -171,6 +200,10 @@ fn put_refusal(out: &mut Bytes, refusal: &Refusal) -> Result<(), Memory>
         Refusal::TooLong(name) => put_named(out, b"too long ", name),
         Refusal::Job(line, kind) => put_line(out, b"job ", job_word(*kind), *line),
         Refusal::Asm(refusal) => put_line(out, b"asm ", asm_word(refusal.kind), refusal.line),
+        Refusal::Link(refusal) => {
+            out.extend_from_slice(b"link ")?;
+            put_link(out, refusal)
+        }
         Refusal::OutTooLong(n) => put_too_long(out, *n),
         Refusal::Load(refusal) => {
             out.extend_from_slice(b"load ")?;

@@ -7,6 +7,7 @@ use a32_asm::AsmRefusal;
 use elf_model::ElfRefusal;
 use fd_base::Name;
 use job_text::JobKind;
+use link_model::{LinkErr, LinkRefusal};
 use load_model::{LoadErr, LoadRefusal};
 use run_model::Stop;
 use std::alloc::AllocError;
@@ -24,6 +25,8 @@ pub enum Refusal {
     Job(u32, JobKind),
     /// The text that is to be assembled is refused: the first line that is wrong, and what is wrong with it.
     Asm(AsmRefusal),
+    /// The files can't be linked, or one of them is no file that is linked.
+    Link(LinkRefusal),
     /// The file that is to be put would have so many bytes, which are more than `MAX_FILE_BYTES`.
     OutTooLong(u64),
     /// Loading is refused, for another cause than these.

@@ -1,8 +1,11 @@
 //! The program by example.
 
 mod assemblies;
+mod fixups;
+mod links;
 mod objects;
 mod programs;
+mod programs_linked;
 mod runs;
 
 use crate::checks::same_at;

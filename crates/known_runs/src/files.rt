@@ -1,6 +1,6 @@
 //! Files of the tests, as bytes, and the store that has them.
 
-use fd_base::{MemStore, Name};
+use fd_base::{MemStore, Name, Store};
 use std::alloc::Global;
 use std::test::Fail;
 
@@ -70,4 +70,26 @@ pub fn add(store: &mut MemStore, alloc: Global, name: &[u8], bytes: &[u8]) -> Re
     let name = Name::new(alloc, name)?;
     store.add(&name, bytes)?;
     Ok(())
+}
+
+/// The bytes of a file of a store.
+pub fn file_of(store: &mut MemStore, alloc: Global, name: &[u8]) -> Result<Vec<u8>, Fail> {
+    match store.fetch(alloc, &Name::new(alloc, name)?)? {
+        Some(bytes) => Ok(bytes.into_vec()),
+        None => Err("no file")?,
+    }
+}
+
+/// Changes bytes of a file of a store.
+pub fn change(
+    store: &mut MemStore,
+    alloc: Global,
+    name: &[u8],
+    changes: &[(usize, u8)],
+) -> Result<(), Fail> {
+    let mut bytes = file_of(store, alloc, name)?;
+    for (at, byte) in changes {
+        *bytes.get_mut(*at).ok_or("short")? = *byte;
+    }
+    add(store, alloc, name, &bytes)
 }

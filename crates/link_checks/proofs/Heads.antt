@@ -12,7 +12,7 @@ use Rattle.link_names.specs.parts.Joining.{HasInput}
 use Rattle.link_places.specs.declared.heads.SectionHead.{SectionHead}
 use Rattle.link_places.specs.parts.Heads.{head_of, heads_of}
 use Rattle.link_checks.specs.parts.Sited.{HasWordsInside, IsInside}
-use Rattle.link_checks.proofs.Sections.{object_of}
+use Rattle.link_model.proofs.Located.{object_of}
 
 -- the section of a head
 pub record HasSection (inputs : List RelObject) (k : ℕ) (h : SectionHead) : Type 0 where

@@ -5,7 +5,6 @@ ghost use Rattle.std.specs.List.{flat_map};
 ghost use Rattle.link_model.specs.Inputs as spec;
 ghost use Rattle.link_model.specs.SiteTests.{meets_earlier, site_tests};
 ghost use Rattle.link_model.specs.parts.Passes.{Gives};
-ghost use Rattle.link_names.specs.parts.Joining.{HasInput};
 ghost use Rattle.link_words.specs.parts.Facts.{AreFacts, AreNear};
 ghost use Rattle.link_checks.specs.parts.Found.{AreFound};
 ghost use Rattle.link_checks.specs.parts.Sited.{IsInside, IsRel, IsSection};
@@ -15,20 +14,11 @@ use crate::linking::Linking;
 use elf_model::{Rel, RelSection};
 use fd_base::Seq;
 use link_model::{LinkErr, Site};
-use link_places::SectionHead;
+use link_places::{SectionHead, section_of};
 use link_words::{Facts, check_site};
 use std::alloc::Global;
 
 impl<'a> Linking<'a> {
-    /// The section of its number of its input.
-    pub fn section(&self, head: &SectionHead) -> &'a RelSection
-        requires { HasInput self.now.joined.inputs head.now.input (λ o. head.now.number < length o.sections) }
-        ensures { (x : spec.InputSection) → Contains (spec.sections_of self.now.joined.inputs) x → head.now.input ≡ x.input → head.now.number ≡ x.number → result.now ≡ x.section }
-    {
-        let object = &self.joined.inputs()[head.input as usize];
-        &object.sections.as_slice()[head.number as usize]
-    }
-
     /// Tests a relocation of a section, and gives what was looked up of it.
     fn check_rel(
         &self,
@@ -85,7 +75,8 @@ pub fn check_sites(alloc: Global, linking: &Linking) -> Result<Seq<Facts>, LinkE
 {
     let mut found = Seq::new(alloc);
     for head in linking.layout.text.heads() {
-        linking.check_section(alloc, head, linking.section(head), &mut found)?;
+        let section = section_of(linking.joined.inputs(), head);
+        linking.check_section(alloc, head, section, &mut found)?;
     }
     Ok(found)
 }

@@ -7,7 +7,6 @@ use Rattle.std.proofs.lemmas.Bool.{and_parts, eqb-true, ltb-true, leb-true}
 use Rattle.std.proofs.lemmas.Bool.Decides.{nat_tests}
 use Rattle.elf_model.specs.declared.relocatable.RelObject.{RelObject}
 use Rattle.link_model.specs.declared.input.Mode.{Mode}
-use Rattle.link_model.specs.declared.target.Reach.TheVariants.{Settled}
 use Rattle.link_model.specs.Inputs.{InputRel}
 use Rattle.link_model.specs.Needs.{is_branch, target_at}
 use Rattle.link_model.specs.Places.{text_end}
@@ -67,14 +66,14 @@ within (pos g) end low high = (g, refl, ltb-true g end high)
 within (negsuc g) end low high = absurd cc
 
 -- the parts of a branch that is in reach
-record IsReached (mode : Mode) (inputs : List RelObject) (x : InputRel) : Type 0 where
+pub record IsReached (mode : Mode) (inputs : List RelObject) (x : InputRel) : Type 0 where
   pub unwritten : is_writable x.at ≡ false
   pub goal : ℕ
   pub goal' : branch_goal mode inputs x ≡ pos goal
   pub below : goal < text_end mode inputs
   pub near : is_distance (branch_distance mode inputs x) ≡ true
 
-reached : (mode : Mode) (inputs : List RelObject) (x : InputRel) → can_branch mode inputs x ≡ true → IsReached mode inputs x
+pub reached : (mode : Mode) (inputs : List RelObject) (x : InputRel) → can_branch mode inputs x ≡ true → IsReached mode inputs x
 reached mode inputs x can =
     let low = int_le (pos 0) (branch_goal mode inputs x) in
     let high = int_lt (branch_goal mode inputs x) (pos (text_end mode inputs)) in
@@ -97,35 +96,36 @@ reached mode inputs x can =
     not_true true is = absurd cc
     not_true false is = refl
 
-can_branch_at : (mode : Mode) (inputs : List RelObject) (x : InputRel) → is_branch (x.rel).kind ≡ true → (target_at mode inputs x).reach ≡ Settled
+pub can_branch_at : (mode : Mode) (inputs : List RelObject) (x : InputRel) → is_branch (x.rel).kind ≡ true → is_nothing (target_at mode inputs x).reach ≡ false
     → is_far_branch mode inputs x (target_at mode inputs x) ≡ false → can_branch mode inputs x ≡ true
-can_branch_at mode inputs x kind settled near =
+can_branch_at mode inputs x kind there near =
     let near' : (true && (true && not (can_branch mode inputs x))) ≡ false =
     sym (ap (λ b. b && (not (is_nothing (target_at mode inputs x).reach) && not (can_branch mode inputs x))) kind
-    ∙ ap (λ r. true && (not (is_nothing r) && not (can_branch mode inputs x))) settled) ∙ near in
+    ∙ ap (λ b. true && (not b && not (can_branch mode inputs x))) there) ∙ near in
     by (can_branch mode inputs x) near'
   where
     by : (b : Bool) → (true && (true && not b)) ≡ false → b ≡ true
     by true is = refl
     by false is = absurd cc
 
-its_word : (mode : Mode) (inputs : List RelObject) (x : InputRel) → is_branch (x.rel).kind ≡ true → (target_at mode inputs x).reach ≡ Settled
+-- the word that the linker writes
+pub its_word : (mode : Mode) (inputs : List RelObject) (x : InputRel) → is_branch (x.rel).kind ≡ true → is_nothing (target_at mode inputs x).reach ≡ false
     → is_distance (branch_distance mode inputs x) ≡ true → site_word mode inputs x ≡ Some (field (input_word x) (branch_distance mode inputs x))
 unfolding site_word
-its_word mode inputs x kind settled near =
+its_word mode inputs x kind there near =
     let word : branch_word mode inputs x ≡ branch_field (input_word x) (branch_distance mode inputs x) =
-    ap (λ r. cond (is_nothing r) (branch_field (input_word x) (neg_ℤ (pos 4))) (branch_field (input_word x) (branch_distance mode inputs x))) settled in
+    ap (λ b. cond b (branch_field (input_word x) (neg_ℤ (pos 4))) (branch_field (input_word x) (branch_distance mode inputs x))) there in
     ap (λ b. cond b (branch_word mode inputs x) (data_word mode inputs x)) kind ∙ word
     ∙ ap (λ b. cond b (Some (field (input_word x) (branch_distance mode inputs x))) None) near
 
 pub settled_branches_mean : SettledBranchesMean
 settled_branches_mean mode inputs o l p m x clear out is there kind settled near =
     let v = site_address mode inputs x in
-    let reach = reached mode inputs x (can_branch_at mode inputs x kind settled (passing_is_fitting.reach mode inputs x near).branch) in
+    let reach = reached mode inputs x (can_branch_at mode inputs x kind (ap is_nothing settled) (passing_is_fitting.reach mode inputs x near).branch) in
     let g = reach.goal in
     let w = field (input_word x) (branch_distance mode inputs x) in
     let from = in_text mode inputs x clear there reach.unwritten in
-    let plain = text_word_is_plain mode inputs o x w clear out is.sound there reach.unwritten (its_word mode inputs x kind settled reach.near) in
+    let plain = text_word_is_plain mode inputs o x w clear out is.sound there reach.unwritten (its_word mode inputs x kind (ap is_nothing settled) reach.near) in
     let shares = text_shares mode inputs o v g out (omega (arith, from)) reach.below in
     let distance : branch_addend w ≡ pos g -ℤ pos (v + 8) = field_reads_back (input_word x) (branch_distance mode inputs x) reach.near ∙ ap (λ z. z -ℤ pos (v + 8)) reach.goal' in
     let small = text_small mode inputs o out is.sound (omega (arith, from)) in

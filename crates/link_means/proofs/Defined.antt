@@ -1,6 +1,6 @@
 -- What a symbol is that the linker settles, and the functions that have descriptors.
-use Rattle.std.proofs.Common.{◌≡◌, ℕ, suc, zero, ◌+◌, ◌%◌, ◌≤◌, inl, inr, Bool, true, false, cond, not, ◌&&◌, ◌||◌, List, [], ◌∷◌, length, Option, Some, None, refl, sym, ap, subst, ◌∙◌, arith, All}
-use Rattle.std.specs.Prelude.{◌==◌, Contains, filter, nat_le, option_and_then, option_map, slice_get, unwrap_or, flat_map}
+use Rattle.std.proofs.Common.{◌≡◌, ℕ, suc, zero, ◌+◌, ◌%◌, ◌≤◌, inl, inr, Bool, true, false, cond, not, ◌&&◌, ◌||◌, List, [], ◌∷◌, length, Option, Some, None, refl, sym, ap, ◌∙◌, arith, All}
+use Rattle.std.specs.Prelude.{◌==◌, filter, nat_le, option_and_then, slice_get, unwrap_or, flat_map}
 use Rattle.std.specs.Option.{option_map_or, option_or}
 use Rattle.std.specs.List.{enumerate_from}
 use Rattle.std.proofs.lemmas.Bool.{and_parts, false≢true, leb-true, or_parts}
@@ -27,7 +27,6 @@ use Rattle.link_model.specs.Needs.{is_dropped, is_own_undefined, is_undefined, i
 use Rattle.link_model.specs.Places.{address_of, got_end, section_place, text_end}
 use Rattle.link_model.specs.Sections.{data_sections, function_address, has_section, is_code_section, is_function, is_text_section, is_writable, place_among, text_place}
 use Rattle.link_model.specs.Targets.{is_absolute, is_closed, is_nowhere, joined_target, name_number, own_target, spot_of, target_of, target_of_name}
-use Rattle.link_model.proofs.Numbering.{section_at}
 use Rattle.link_model.proofs.Placed.{in_text_sections, text_below, text_lies}
 
 -- ---- definitions

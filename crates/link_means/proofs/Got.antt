@@ -1,14 +1,12 @@
 -- What stands in the GOT for a need, and what loading makes of it.
-use Rattle.std.proofs.Common.{◌≡◌, ℕ, ◌+◌, ◌*◌, ◌%◌, ◌^◌, ◌<◌, ◌≤◌, Bool, true, false, cond, not, ◌&&◌, ◌||◌, List, [], ◌∷◌, ◌++◌, map, Some, None, refl, sym, ap, subst, ◌∙◌, arith, All}
+use Rattle.std.proofs.Common.{◌≡◌, ℕ, ◌+◌, ◌*◌, ◌^◌, ◌<◌, ◌≤◌, false, cond, not, ◌&&◌, ◌||◌, List, [], ◌++◌, Some, None, refl, sym, ap, subst, ◌∙◌, arith}
 use Rattle.std.specs.Prelude.{Contains, flat_map, slice_get}
 use Rattle.std.proofs.lemmas.List.Elements.{All-contains, Contains-append_right}
-use Rattle.fd_base.proofs.Members.{contains_first, flat_map_in, map_in}
+use Rattle.fd_base.proofs.Members.{flat_map_in, map_in}
 use Rattle.elf_model.specs.declared.object.Object.{Object}
-use Rattle.elf_model.specs.declared.object.Rel.{Rel}
 use Rattle.elf_model.specs.declared.relocatable.RelObject.{RelObject}
 use Rattle.elf_model.specs.Filled.{fixup_at}
-use Rattle.elf_model.specs.Places.{file_byte, file_word}
-use Rattle.elf_model.specs.Sound.{IsSound}
+use Rattle.elf_model.specs.Places.{file_byte}
 use Rattle.load_image.specs.parts.Laws.{HasWord}
 use Rattle.load_map.specs.Translation.{placed}
 use Rattle.load_model.specs.Definition.{Linkage}
@@ -19,7 +17,7 @@ use Rattle.link_model.specs.DynamicRels.{need_rels}
 use Rattle.link_model.specs.GotLayout.{use_size}
 use Rattle.link_model.specs.Inputs.{InputRel, all_rels, numbered}
 use Rattle.link_model.specs.Needs.{all_needs, is_idle, is_own_undefined, is_dropped, is_same_need, is_unusable, kind_of, needs_for, needs_of, offset_of, slot_key, symbol_at, target_at}
-use Rattle.link_model.specs.Places.{data_end, data_place, got_end, need_place}
+use Rattle.link_model.specs.Places.{data_end, data_place, need_place}
 use Rattle.link_model.specs.Segments.{got_words, need_values, need_words, plt_words, segments_of, site_words, word_at, words_of}
 use Rattle.link_model.specs.SiteTests.{has_unusable_symbol}
 use Rattle.link_model.specs.Sites.{site_address, site_word}

@@ -1,5 +1,5 @@
 -- Relocations whose words lead into the GOT, and descriptors, of what the linker settles and of what is nowhere defined.
-use Rattle.std.proofs.Common.{◌≡◌, ℕ, ◌+◌, ◌*◌, ◌%◌, ◌^◌, ◌<◌, ◌≤◌, Bool, true, false, cond, not, ◌&&◌, ◌||◌, List, [], ◌∷◌, ◌++◌, Some, None, refl, sym, ap, subst, ◌∙◌, arith}
+use Rattle.std.proofs.Common.{◌≡◌, ℕ, ◌+◌, ◌*◌, ◌%◌, ◌^◌, ◌<◌, ◌≤◌, Bool, true, false, cond, not, ◌&&◌, List, [], ◌∷◌, ◌++◌, Some, None, refl, sym, ap, subst, ◌∙◌, arith}
 use Rattle.std.specs.Prelude.{◌==◌, Contains, slice_get}
 use Rattle.std.proofs.lemmas.Bool.{eqb-true, or_parts}
 use Rattle.fd_base.proofs.Members.{contains_first, contains_later}
@@ -8,7 +8,7 @@ use Rattle.elf_model.specs.declared.object.Object.{Object}
 use Rattle.elf_model.specs.declared.object.Rel.{Rel}
 use Rattle.elf_model.specs.declared.relocatable.RelObject.{RelObject}
 use Rattle.elf_model.specs.Filled.{fixup_at}
-use Rattle.elf_model.specs.Places.{file_byte, file_word}
+use Rattle.elf_model.specs.Places.{file_word}
 use Rattle.elf_model.specs.Header.{is_one_of}
 use Rattle.arm_relocs.specs.Branch.{imm24}
 use Rattle.load_map.specs.Translation.{placed}
@@ -17,17 +17,15 @@ use Rattle.load_model.specs.Image.{Placing, got_of, image_of}
 use Rattle.link_model.specs.declared.input.Mode.{Mode}
 use Rattle.link_model.specs.declared.need.Need.{Need}
 use Rattle.link_model.specs.declared.need.Need.TheVariants.{Word, FuncWord, Descriptor, NoFunction}
-use Rattle.link_model.specs.declared.target.Reach.{Reach}
-use Rattle.link_model.specs.declared.target.Reach.TheVariants.{Settled, Nothing, Dynamic}
+use Rattle.link_model.specs.declared.target.Reach.TheVariants.{Settled, Nothing}
 use Rattle.link_model.specs.declared.target.Target.{Target}
 use Rattle.link_model.specs.DynamicRels.{need_rels}
 use Rattle.link_model.specs.GotLayout.{use_size}
 use Rattle.link_model.specs.Inputs.{InputRel, all_rels}
 use Rattle.link_model.specs.Needs.{all_needs, descriptor_need, is_branch, is_function_kind, is_idle, kind_of, needs_for, offset_of, only_if, slot_key, target_at}
-use Rattle.link_model.specs.Places.{address_of, data_end, need_place}
+use Rattle.link_model.specs.Places.{address_of, need_place}
 use Rattle.link_model.specs.Sections.{function_address, is_function, is_writable}
 use Rattle.link_model.specs.Segments.{descriptor_word, need_values, segments_of, symbol_word}
-use Rattle.link_model.specs.SiteTests.{is_no_function}
 use Rattle.link_model.specs.Sites.{address_rels, dynamic_rel, input_word, site_address, site_rels, site_word}
 use Rattle.link_model.specs.Targets.{is_absolute, is_dynamic, is_nowhere, is_settled, target_of_key}
 use Rattle.link_model.specs.parts.Laws.{AreClear, IsWellTyped}
@@ -35,10 +33,9 @@ use Rattle.link_model.proofs.Naming.{names_are_numbered}
 use Rattle.link_sites.specs.Loaded.{IsModule, LoadedWord}
 use Rattle.link_sites.specs.parts.Linked.{IsRelative}
 use Rattle.link_sites.proofs.Sites.{plain, relative}
-use Rattle.link_means.specs.Linked.{AreOfBytes}
 use Rattle.link_means.specs.Means.{HasInGot}
-use Rattle.link_means.specs.Values.{descriptor_of_target, own_descriptor, settled_value, value_of_target}
-use Rattle.link_means.specs.parts.Laws.{IsOutput, is_filled_kind}
+use Rattle.link_means.specs.Values.{descriptor_of_target, own_descriptor, value_of_target}
+use Rattle.link_means.specs.parts.Laws.{AreOfBytes, IsOutput, is_filled_kind}
 use Rattle.link_means.proofs.Addresses.{data_word_stands}
 use Rattle.link_means.proofs.Defined.{function_of_text, settled_there}
 use Rattle.link_means.proofs.Got.{free_need_means, is_needed, leads_to, need_below, placed_need_means, usable}
@@ -90,7 +87,7 @@ module _ (mode : Mode) (inputs : List RelObject) (o : Object) (l : Linkage) (p :
   -- ---- a word of the GOT with S
 
   module _ (kind : (x.rel).kind ≡ R_ARM_GOT_BREL) where
-    word_needed : Contains (all_needs mode inputs) (Word t.key)
+    pub word_needed : Contains (all_needs mode inputs) (Word t.key)
     word_needed =
         let needs : needs_for inputs (x.rel).kind t ≡ Word t.key ∷ [] = ap (λ k. needs_for inputs k t) kind in
         needs_as (Word t.key) (ap is_idle kind) (subst (λ (ns : List Need). Contains ns (Word t.key)) (sym needs) (contains_first (Word t.key) (Word t.key) [] refl))
@@ -104,10 +101,10 @@ module _ (mode : Mode) (inputs : List RelObject) (o : Object) (l : Linkage) (p :
         let lead = leads_to mode inputs o l p m x clear out is there (Word t.key) word_needed (ap is_filled_kind kind) word_written in
         record { offset = offset_of (all_needs mode inputs) (Word t.key); place = need_place mode inputs (Word t.key); loaded = lead.loaded; leads = lead.leads; there = loaded }
 
-    word_rels : need_rels mode inputs (Word t.key) ≡ address_rels mode inputs (need_place mode inputs (Word t.key)) R_ARM_GLOB_DAT t
+    pub word_rels : need_rels mode inputs (Word t.key) ≡ address_rels mode inputs (need_place mode inputs (Word t.key)) R_ARM_GLOB_DAT t
     word_rels = ap (address_rels mode inputs (need_place mode inputs (Word t.key)) R_ARM_GLOB_DAT) key_is
 
-    word_value : slice_get (need_values mode inputs (Word t.key)) 0 ≡ Some (symbol_word mode inputs t)
+    pub word_value : slice_get (need_values mode inputs (Word t.key)) 0 ≡ Some (symbol_word mode inputs t)
     word_value = ap (λ u. Some (symbol_word mode inputs u)) key_is
 
     pub settled_got_word : t.reach ≡ Settled → HasInGot l p m o (site_address mode inputs x) (value_of_target mode inputs l p m o t)
@@ -138,6 +135,39 @@ module _ (mode : Mode) (inputs : List RelObject) (o : Object) (l : Linkage) (p :
         let loaded = got_nothing mode inputs o l p m clear out is (Word t.key) word_needed R_ARM_GLOB_DAT 0 t (omega arith) refl word_rels value nothing in
         let same : 0 ≡ value_of_target mode inputs l p m o t = rw nothing refl in
         got_value (subst (LoadedWord l p m o (need_place mode inputs (Word t.key))) same loaded)
+
+  -- ---- a word of the GOT with a descriptor's address
+
+  module _ (kind : (x.rel).kind ≡ R_ARM_GOTFUNCDESC) where
+    pub func_needs : needs_for inputs (x.rel).kind t ≡ FuncWord t.key ∷ only_if (is_settled t.reach) (descriptor_need inputs t)
+    func_needs = ap (λ k. needs_for inputs k t) kind
+
+    pub func_needed : Contains (all_needs mode inputs) (FuncWord t.key)
+    func_needed =
+        needs_as (FuncWord t.key) (ap is_idle kind)
+        (subst (λ (ns : List Need). Contains ns (FuncWord t.key)) (sym func_needs) (contains_first (FuncWord t.key) (FuncWord t.key) (only_if (is_settled t.reach) (descriptor_need inputs t)) refl))
+
+    func_written : site_word mode inputs x ≡ Some (offset_of (all_needs mode inputs) (FuncWord t.key))
+    unfolding site_word target_at all_needs
+    func_written = rw kind refl
+
+    pub func_rels : need_rels mode inputs (FuncWord t.key) ≡ address_rels mode inputs (need_place mode inputs (FuncWord t.key)) R_ARM_FUNCDESC t
+    func_rels = ap (address_rels mode inputs (need_place mode inputs (FuncWord t.key)) R_ARM_FUNCDESC) key_is
+
+    pub func_value : slice_get (need_values mode inputs (FuncWord t.key)) 0 ≡ Some (descriptor_word mode inputs t)
+    func_value = ap (λ u. Some (descriptor_word mode inputs u)) key_is
+
+    pub got_func : LoadedWord l p m o (need_place mode inputs (FuncWord t.key)) (descriptor_of_target mode inputs l p m o t) → HasInGot l p m o (site_address mode inputs x) (descriptor_of_target mode inputs l p m o t)
+    got_func loaded =
+        let lead = leads_to mode inputs o l p m x clear out is there (FuncWord t.key) func_needed (ap is_filled_kind kind) func_written in
+        record { offset = offset_of (all_needs mode inputs) (FuncWord t.key); place = need_place mode inputs (FuncWord t.key); loaded = lead.loaded; leads = lead.leads; there = loaded }
+
+    pub idle_got_descriptor : t.reach ≡ Nothing → HasInGot l p m o (site_address mode inputs x) (descriptor_of_target mode inputs l p m o t)
+    idle_got_descriptor nothing =
+        let value : slice_get (need_values mode inputs (FuncWord t.key)) 0 ≡ Some 0 = func_value ∙ ap (λ r. Some (cond (is_settled r) (need_place mode inputs (descriptor_need inputs t)) 0)) nothing in
+        let loaded = got_nothing mode inputs o l p m clear out is (FuncWord t.key) func_needed R_ARM_FUNCDESC 0 t (omega arith) refl func_rels value nothing in
+        let same : 0 ≡ descriptor_of_target mode inputs l p m o t = rw nothing refl in
+        got_func (subst (LoadedWord l p m o (need_place mode inputs (FuncWord t.key))) same loaded)
 
   -- ---- descriptors of the object's own functions
 
@@ -180,49 +210,18 @@ module _ (mode : Mode) (inputs : List RelObject) (o : Object) (l : Linkage) (p :
         let small = data_small mode inputs o out is.sound in
         omega (arith, below, small)
 
-    -- ---- a word of the GOT with a descriptor's address
-
+    -- a word of the GOT with a descriptor's address
     module _ (kind : (x.rel).kind ≡ R_ARM_GOTFUNCDESC) where
-      func_needs : needs_for inputs (x.rel).kind t ≡ FuncWord t.key ∷ only_if (is_settled t.reach) (descriptor_need inputs t)
-      func_needs = ap (λ k. needs_for inputs k t) kind
-
-      func_needed : Contains (all_needs mode inputs) (FuncWord t.key)
-      func_needed =
-          needs_as (FuncWord t.key) (ap is_idle kind)
-          (subst (λ (ns : List Need). Contains ns (FuncWord t.key)) (sym func_needs) (contains_first (FuncWord t.key) (FuncWord t.key) (only_if (is_settled t.reach) (descriptor_need inputs t)) refl))
-
-      func_written : site_word mode inputs x ≡ Some (offset_of (all_needs mode inputs) (FuncWord t.key))
-      unfolding site_word target_at all_needs
-      func_written = rw kind refl
-
-      func_rels : need_rels mode inputs (FuncWord t.key) ≡ address_rels mode inputs (need_place mode inputs (FuncWord t.key)) R_ARM_FUNCDESC t
-      func_rels = ap (address_rels mode inputs (need_place mode inputs (FuncWord t.key)) R_ARM_FUNCDESC) key_is
-
-      func_value : slice_get (need_values mode inputs (FuncWord t.key)) 0 ≡ Some (descriptor_word mode inputs t)
-      func_value = ap (λ u. Some (descriptor_word mode inputs u)) key_is
-
-      pub got_func : LoadedWord l p m o (need_place mode inputs (FuncWord t.key)) (descriptor_of_target mode inputs l p m o t) → HasInGot l p m o (site_address mode inputs x) (descriptor_of_target mode inputs l p m o t)
-      got_func loaded =
-          let lead = leads_to mode inputs o l p m x clear out is there (FuncWord t.key) func_needed (ap is_filled_kind kind) func_written in
-          record { offset = offset_of (all_needs mode inputs) (FuncWord t.key); place = need_place mode inputs (FuncWord t.key); loaded = lead.loaded; leads = lead.leads; there = loaded }
-
       pub settled_got_descriptor : t.reach ≡ Settled → HasInGot l p m o (site_address mode inputs x) (descriptor_of_target mode inputs l p m o t)
       settled_got_descriptor settled =
           let f = own_function (ap is_function_kind kind) (ap is_idle kind) settled in
           let d = Descriptor (address_of mode inputs t.spot) in
-          let all : needs_for inputs (x.rel).kind t ≡ FuncWord t.key ∷ d ∷ [] = func_needs ∙ ap (λ r. FuncWord t.key ∷ only_if (is_settled r) (descriptor_need inputs t)) settled ∙ ap (λ n. FuncWord t.key ∷ n ∷ []) f.need in
+          let all : needs_for inputs (x.rel).kind t ≡ FuncWord t.key ∷ d ∷ [] = func_needs kind ∙ ap (λ r. FuncWord t.key ∷ only_if (is_settled r) (descriptor_need inputs t)) settled ∙ ap (λ n. FuncWord t.key ∷ n ∷ []) f.need in
           let needed = needs_as d (ap is_idle kind) (subst (λ (ns : List Need). Contains ns d) (sym all) (contains_later (FuncWord t.key) d (d ∷ []) (contains_first d d [] refl))) in
           let value : slice_get (need_values mode inputs (FuncWord t.key)) 0 ≡ Some its_place =
-          func_value ∙ ap (λ r. Some (cond (is_settled r) (need_place mode inputs (descriptor_need inputs t)) 0)) settled ∙ ap (λ n. Some (need_place mode inputs n)) f.need in
-          let loaded = got_placed mode inputs o l p m clear out is (FuncWord t.key) func_needed R_ARM_FUNCDESC its_place t (omega arith) refl func_rels value settled f.off (place_small needed) in
-          got_func (subst (LoadedWord l p m o (need_place mode inputs (FuncWord t.key))) (own_means settled needed) loaded)
-
-      pub idle_got_descriptor : t.reach ≡ Nothing → HasInGot l p m o (site_address mode inputs x) (descriptor_of_target mode inputs l p m o t)
-      idle_got_descriptor nothing =
-          let value : slice_get (need_values mode inputs (FuncWord t.key)) 0 ≡ Some 0 = func_value ∙ ap (λ r. Some (cond (is_settled r) (need_place mode inputs (descriptor_need inputs t)) 0)) nothing in
-          let loaded = got_nothing mode inputs o l p m clear out is (FuncWord t.key) func_needed R_ARM_FUNCDESC 0 t (omega arith) refl func_rels value nothing in
-          let same : 0 ≡ descriptor_of_target mode inputs l p m o t = rw nothing refl in
-          got_func (subst (LoadedWord l p m o (need_place mode inputs (FuncWord t.key))) same loaded)
+          func_value kind ∙ ap (λ r. Some (cond (is_settled r) (need_place mode inputs (descriptor_need inputs t)) 0)) settled ∙ ap (λ n. Some (need_place mode inputs n)) f.need in
+          let loaded = got_placed mode inputs o l p m clear out is (FuncWord t.key) (func_needed kind) R_ARM_FUNCDESC its_place t (omega arith) refl (func_rels kind) value settled f.off (place_small needed) in
+          got_func kind (subst (LoadedWord l p m o (need_place mode inputs (FuncWord t.key))) (own_means settled needed) loaded)
 
     -- ---- the other kinds of descriptors
 

@@ -1,6 +1,6 @@
 -- Words of the inputs that the linker doesn't write over stand in the linked object as they are.
-use Rattle.std.proofs.Common.{◌≡◌, ℕ, ◌+◌, ◌*◌, ◌<◌, ◌≤◌, ◌⊎◌, inl, inr, Bool, true, false, cond, List, [], ◌++◌, length, get_or, slice_index, Some, None, Option, refl, sym, ap, ◌∙◌, arith, All}
-use Rattle.std.specs.Prelude.{◌==◌, Contains, slice_get, option_map}
+use Rattle.std.proofs.Common.{◌≡◌, ℕ, ◌+◌, ◌*◌, ◌≤◌, ◌⊎◌, inl, inr, Bool, true, false, cond, List, [], ◌++◌, length, Some, None, refl, sym, ap, ◌∙◌, arith, All}
+use Rattle.std.specs.Prelude.{◌==◌, Contains, option_map}
 use Rattle.std.proofs.lemmas.Bool.Decides.{nat_tests}
 use Rattle.std.proofs.lemmas.List.Elements.{All-contains, Contains-append_cases}
 use Rattle.std.proofs.lemmas.Option.{slice_get_within}
@@ -19,10 +19,10 @@ use Rattle.link_model.specs.declared.limits.TheConstants.{PLT_ENTRY_SIZE}
 use Rattle.link_model.specs.declared.need.Need.{Need}
 use Rattle.link_model.specs.declared.need.Need.TheVariants.{Word, FuncWord, Descriptor, NoFunction, Slot}
 use Rattle.link_model.specs.GotLayout.{use_size}
-use Rattle.link_model.specs.Inputs.{InputRel, all_rels, numbered, sections_of}
+use Rattle.link_model.specs.Inputs.{InputRel, InputSection, all_rels, numbered, sections_of}
 use Rattle.link_model.specs.Needs.{all_needs, is_idle, kind_of, offset_of, slot_keys}
 use Rattle.link_model.specs.Places.{data_place, got_end, need_place, plt_entry, plt_place, section_place, text_end}
-use Rattle.link_model.specs.Sections.{is_nobits, is_writable, text_sections_end}
+use Rattle.link_model.specs.Sections.{is_writable, text_sections_end}
 use Rattle.link_model.specs.Segments.{got_words, need_values, need_words, plt_entry_words, plt_words, segments_of, site_words, text_segment, word_at, words_of}
 use Rattle.link_model.specs.Sites.{input_word, site_address, site_rels, site_word}
 use Rattle.link_model.specs.parts.Laws.{AreClear, IsOffWord, StandsInGot}
@@ -34,8 +34,8 @@ use Rattle.link_model.proofs.Sited.{address, one_or_apart}
 use Rattle.link_model.proofs.Written.{words_are_linked}
 use Rattle.link_sites.specs.Loaded.{HoldsWord}
 use Rattle.link_sites.specs.parts.Linked.{IsPlain}
-use Rattle.link_means.specs.Linked.{AreOfBytes, IsOfBytes}
-use Rattle.link_means.specs.parts.Laws.{IsOutput}
+use Rattle.link_means.specs.Linked.{HasBytes}
+use Rattle.link_means.specs.parts.Laws.{AreOfBytes, IsOutput}
 use Rattle.link_means.proofs.Apart.{all_off}
 use Rattle.link_means.proofs.Held.{data_holds, held_stays, in_data}
 use Rattle.link_means.proofs.Staying.{written_not_idle}
@@ -154,7 +154,16 @@ module _ (mode : Mode) (inputs : List RelObject) (clear : AreClear inputs) (x : 
         let place : site_address mode inputs x + i ≡ section_place mode inputs s.index + (k + i) = omega (arith, at) in
         ap (file_byte (segments_of mode inputs)) place
         ∙ words_are_linked.bytes mode inputs s (k + i) clear.sound own (omega (arith, lt, inside.within, all, filled)) off
-        ∙ bytes_of_word (s.section).filled k i (All-contains IsOfBytes (sections_of inputs) s bytes own) lt
+        ∙ bytes_of_word (s.section).filled k i (All-contains (λ (y : InputSection). HasBytes y.section) (sections_of inputs) s bytes own) lt
+
+    -- in the data of the file
+    pub kept_in_data : (o : Object) → IsOutput mode inputs o → is_writable x.at ≡ true → HoldsWord (file_byte o.segments) (site_address mode inputs x) (input_word x)
+    kept_in_data o out writable = λ i lt.
+        let v = site_address mode inputs x in
+        let inside = in_data mode inputs x clear there writable in
+        ap (λ ss. file_byte ss (v + i)) out.segments'
+        ∙ held_stays (segments_of mode inputs) out.others (v + i) (data_holds mode inputs (v + i) (omega (arith, inside.from)) (omega (arith, inside.to, lt)))
+        ∙ kept_stands i lt
 
     -- where the loader has nothing to fill either, it stays
     pub kept_is_plain : (o : Object) → IsOutput mode inputs o → IsSound o → site_rels mode inputs x ≡ [] → IsPlain o (site_address mode inputs x) (input_word x)
@@ -174,13 +183,9 @@ module _ (mode : Mode) (inputs : List RelObject) (clear : AreClear inputs) (x : 
               apart = unwritten_apart o 0 (text_segment mode inputs) v sound (text_first mode inputs o out (omega (arith, below))) refl (omega arith) (omega (arith, below));
             }
         by true writable =
-            let inside = in_data mode inputs x clear there writable in
             let place = (sections_lie_apart.each mode inputs x.at (section_of_rel inputs x there).0).in_data writable in
             let at = address mode inputs clear x in
             record {
-              word = λ i lt.
-                  ap (λ ss. file_byte ss (v + i)) out.segments'
-                  ∙ held_stays (segments_of mode inputs) out.others (v + i) (data_holds mode inputs (v + i) (omega (arith, inside.from)) (omega (arith, inside.to, lt)))
-                  ∙ kept_stands i lt;
+              word = kept_in_data o out writable;
               apart = all_off mode inputs clear x there (omega (arith, at, place.from)) free some o out;
             }

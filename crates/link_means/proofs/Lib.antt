@@ -17,5 +17,10 @@ pub mod Defined
 pub mod GotKinds
 pub mod OwnDescriptors
 pub mod Linking
-pub mod Standing
+pub mod Bytes
+pub mod Whole
 pub mod Sums
+pub mod Named
+pub mod Dynamic
+pub mod SlotCalls
+pub mod PrivateDescriptors

@@ -1,16 +1,15 @@
 -- What a link is that passes its tests.
-use Rattle.std.proofs.Common.{◌≡◌, ℕ, ◌+◌, ◌%◌, inl, inr, Bool, true, false, cond, not, ◌&&◌, ◌||◌, List, [], ◌∷◌, None, refl, sym, ap, subst, ◌∙◌, All}
+use Rattle.std.proofs.Common.{◌≡◌, ℕ, ◌%◌, inl, inr, Bool, true, false, not, length, ◌&&◌, ◌||◌, List, [], ◌∷◌, None, refl, sym, ap, ◌∙◌, All}
 use Rattle.std.specs.Prelude.{◌==◌, Contains}
 use Rattle.std.proofs.lemmas.Bool.{eqb-true, false≢true, or_cases, or_parts}
 use Rattle.std.proofs.lemmas.List.Elements.{All-contains}
 use Rattle.fd_base.proofs.Members.{all_contained}
-use Rattle.elf_model.specs.declared.constants.TheConstants.{R_ARM_ABS32, R_ARM_FUNCDESC, R_ARM_GOTFUNCDESC, R_ARM_GOTOFF32, R_ARM_GOTOFFFUNCDESC, R_ARM_GOT_BREL, R_ARM_NONE, R_ARM_REL32, R_ARM_TARGET1, R_ARM_V4BX}
+use Rattle.elf_model.specs.declared.constants.TheConstants.{R_ARM_ABS32, R_ARM_FUNCDESC, R_ARM_GOTOFF32, R_ARM_GOTOFFFUNCDESC, R_ARM_NONE, R_ARM_REL32, R_ARM_TARGET1, R_ARM_V4BX}
 use Rattle.elf_model.specs.declared.object.Object.{Object}
 use Rattle.elf_model.specs.declared.relocatable.RelObject.{RelObject}
 use Rattle.elf_model.specs.Header.{is_one_of}
 use Rattle.elf_model.specs.RelSound.{IsRelSound}
 use Rattle.elf_model.specs.Test.{first_failing}
-use Rattle.elf_write.specs.TableSegment.{with_tables}
 use Rattle.load_map.specs.Translation.{placed}
 use Rattle.load_model.specs.Definition.{Linkage}
 use Rattle.load_model.specs.Image.{Placing}
@@ -22,30 +21,30 @@ use Rattle.link_model.specs.declared.target.Reach.TheVariants.{Settled, Nothing,
 use Rattle.link_model.specs.declared.target.Target.{Target}
 use Rattle.link_model.specs.Inputs.{InputRel, all_rels}
 use Rattle.link_model.specs.Needs.{all_needs, is_branch, is_idle, target_at}
-use Rattle.link_model.specs.Object.{object_of}
 use Rattle.link_model.specs.Places.{need_place}
 use Rattle.link_model.specs.Refusals.{tests}
 use Rattle.link_model.specs.Sections.{is_writable}
 use Rattle.link_model.specs.SiteTests.{is_cross, meets_earlier}
 use Rattle.link_model.specs.Sites.{is_address_kind, site_address}
-use Rattle.link_model.specs.Targets.{is_absolute, is_dynamic, is_nothing, is_static, name_of_key}
+use Rattle.link_model.specs.Targets.{is_absolute, is_dynamic, is_nothing}
 use Rattle.link_model.specs.parts.Laws.{AreClear, IsWellTyped}
 use Rattle.link_model.proofs.Passed.{passing_is_fitting}
 use Rattle.link_writes.specs.Linked.{written_sizes}
-use Rattle.link_writes.proofs.Seen.{rel_seen}
+use Rattle.elf_write.specs.ObjectFile.{object_file}
 use Rattle.link_writes.proofs.Tested.{IsPassed, all_passed}
 use Rattle.link_sites.specs.Loaded.{IsModule, LoadedWord}
-use Rattle.link_means.specs.Linked.{AreOfBytes}
-use Rattle.link_means.specs.Means.{CallsBySlot, HasInGot, Means}
-use Rattle.link_means.specs.Values.{address_word, descriptor_of_target, own_descriptor, value_of_target}
-use Rattle.link_means.specs.parts.Laws.{IsOutput}
+use Rattle.link_means.specs.Means.{Means}
+use Rattle.link_means.specs.Values.{address_word, own_descriptor}
+use Rattle.link_means.specs.parts.Laws.{AreOfBytes, IsOutput}
 use Rattle.link_means.proofs.Addresses.{address_kinds, settled_addresses_mean}
 use Rattle.link_means.proofs.Branches.{settled_branches_mean}
 use Rattle.link_means.proofs.Distances.{distances_mean}
+use Rattle.link_means.proofs.Dynamic.{dynamic_address, dynamic_descriptor, dynamic_got_descriptor, dynamic_got_word}
 use Rattle.link_means.proofs.GotKinds.{idle_descriptor, idle_got_descriptor, idle_got_word, settled_descriptor, settled_descriptor_distance, settled_got_descriptor, settled_got_word}
 use Rattle.link_means.proofs.IdleBranches.{idle_branches_mean}
+use Rattle.link_means.proofs.SlotCalls.{slot_call}
 use Rattle.link_means.proofs.Sums.{sum_means}
-use Rattle.link_means.proofs.Unlinked.{address_busy, no_address_means, no_distance_means, number_means}
+use Rattle.link_means.proofs.Unlinked.{no_address_means, no_distance_means, number_means}
 
 -- ---- kinds
 
@@ -78,26 +77,12 @@ by_reach Settled a b c = a refl
 by_reach Nothing a b c = b refl
 by_reach Dynamic a b c = c refl
 
--- what the loader looks up for a relocation
-pub record MeansDynamic (mode : Mode) (inputs : List RelObject) (l : Linkage) (p : Placing) (m : ℕ) (o : Object) (x : InputRel) : Type 0 where
-  pub call : is_branch (x.rel).kind ≡ true → (target_at mode inputs x).reach ≡ Dynamic
-      → CallsBySlot l p m o (site_address mode inputs x) (name_of_key inputs (target_at mode inputs x).key)
-  pub address : is_address_kind (x.rel).kind ≡ true → (target_at mode inputs x).reach ≡ Dynamic
-      → LoadedWord l p m o (site_address mode inputs x) (address_word mode inputs l p m o x)
-  pub got_word : (x.rel).kind ≡ R_ARM_GOT_BREL → (target_at mode inputs x).reach ≡ Dynamic
-      → HasInGot l p m o (site_address mode inputs x) (value_of_target mode inputs l p m o (target_at mode inputs x))
-  pub got_descriptor : (x.rel).kind ≡ R_ARM_GOTFUNCDESC → (target_at mode inputs x).reach ≡ Dynamic
-      → HasInGot l p m o (site_address mode inputs x) (descriptor_of_target mode inputs l p m o (target_at mode inputs x))
-  pub descriptor : (x.rel).kind ≡ R_ARM_FUNCDESC → (target_at mode inputs x).reach ≡ Dynamic
-      → LoadedWord l p m o (site_address mode inputs x) (descriptor_of_target mode inputs l p m o (target_at mode inputs x))
-
 -- ---- one relocation
 
 module _ (mode : Mode) (inputs : List RelObject) (o : Object) (l : Linkage) (p : Placing) (m : ℕ) (x : InputRel)
     (clear : AreClear inputs) (bytes : AreOfBytes inputs) (out : IsOutput mode inputs o) (is : IsModule l p m o) (there : Contains (all_rels inputs) x)
     (typed : IsWellTyped mode inputs x) (near : is_cross mode inputs x ≡ false)
-    (own : (a : ℕ) → Contains (all_needs mode inputs) (Descriptor a) → own_descriptor mode inputs p m a ≡ placed (p.maps m) (need_place mode inputs (Descriptor a)))
-    (dynamic : MeansDynamic mode inputs l p m o x) where
+    (own : (a : ℕ) → Contains (all_needs mode inputs) (Descriptor a) → own_descriptor mode inputs p m a ≡ placed (p.maps m) (need_place mode inputs (Descriptor a))) where
   abbrev t : Target
   t = target_at mode inputs x
 
@@ -127,20 +112,20 @@ module _ (mode : Mode) (inputs : List RelObject) (o : Object) (l : Linkage) (p :
   pub means : Means mode inputs l p m o x
   means = record {
     branch = λ kind settled. settled_branches_mean mode inputs o l p m x clear out is there kind settled near;
-    call = dynamic.call;
+    call = λ kind left. slot_call mode inputs o l p m x clear out is there typed kind left near;
     goes_on = λ kind nothing. idle_branches_mean mode inputs o l p m x clear out is there kind nothing;
-    address = λ kind. by_reach t.reach (settled_address kind) (λ e. no_address_means mode inputs o l p m x clear bytes out is there kind e) (dynamic.address kind);
+    address = λ kind. by_reach t.reach (settled_address kind) (λ e. no_address_means mode inputs o l p m x clear bytes out is there kind e) (dynamic_address mode inputs o l p m x clear out is there typed bytes kind (writable (address_filled (x.rel).kind kind)));
     sum = λ kind settled within. sum_means mode inputs o l p m x clear out is there kind (writable (address_filled (x.rel).kind kind)) near settled within;
     distance = λ kind settled. distances_mean.relative mode inputs o l p m x clear out is there kind settled near;
     got_distance = λ kind settled. distances_mean.from_got mode inputs o l p m x clear out is there kind settled near;
     no_distance = λ kind nothing. no_distance_means mode inputs o l p m x clear bytes out is there kind nothing;
-    got_word = λ kind. by_reach t.reach (settled_got_word mode inputs o l p m x clear out is there typed kind) (idle_got_word mode inputs o l p m x clear out is there typed kind) (dynamic.got_word kind);
+    got_word = λ kind. by_reach t.reach (settled_got_word mode inputs o l p m x clear out is there typed kind) (idle_got_word mode inputs o l p m x clear out is there typed kind) (dynamic_got_word mode inputs o l p m x clear out is there typed kind);
     got_descriptor = λ kind.
-        by_reach t.reach (settled_got_descriptor mode inputs o l p m x clear out is there typed own kind) (idle_got_descriptor mode inputs o l p m x clear out is there typed own kind) (dynamic.got_descriptor kind);
+        by_reach t.reach (settled_got_descriptor mode inputs o l p m x clear out is there typed own kind) (idle_got_descriptor mode inputs o l p m x clear out is there typed kind) (dynamic_got_descriptor mode inputs o l p m x clear out is there typed kind);
     descriptor_distance = λ kind. distance_settled kind (settled_descriptor_distance mode inputs o l p m x clear out is there typed own kind);
     descriptor = λ kind.
         by_reach t.reach (settled_descriptor mode inputs o l p m x clear out is there typed own kind (writable (ap (is_one_of filled_kinds) kind)))
-        (idle_descriptor mode inputs o l p m x clear out is there typed own kind bytes) (dynamic.descriptor kind);
+        (idle_descriptor mode inputs o l p m x clear out is there typed own kind bytes) (dynamic_descriptor mode inputs o l p m x clear out is there typed bytes kind (writable (ap (is_one_of filled_kinds) kind)));
   }
 
 -- ---- a link
@@ -152,7 +137,7 @@ pub record IsClearLink (mode : Mode) (inputs : List RelObject) : Type 0 where
 
 pub clear_link : (mode : Mode) (soname : List ℕ) (inputs : List RelObject) (libs : List Lib) → All IsRelSound inputs → first_failing (tests written_sizes mode soname inputs libs) ≡ None → IsClearLink mode inputs
 clear_link mode soname inputs libs sound passes =
-    let sites = (all_passed mode inputs soname libs passes).sites in
+    let sites = (all_passed mode inputs (λ o. length (object_file o)) soname libs passes).sites in
     let typed : (x : InputRel) → Contains (all_rels inputs) x → IsWellTyped mode inputs x =
     λ x there. passing_is_fitting.types mode inputs x (All-contains (IsPassed mode inputs) (all_rels inputs) x sites there).typed in
     record {

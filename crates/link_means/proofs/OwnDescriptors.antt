@@ -1,5 +1,5 @@
 -- The descriptors that a program which stands alone has of its own functions.
-use Rattle.std.proofs.Common.{◌≡◌, ℕ, ◌+◌, ◌*◌, ◌%◌, ◌^◌, ◌<◌, ◌≤◌, Bool, true, false, cond, List, [], ◌∷◌, ◌++◌, Some, refl, sym, ap, subst, ◌∙◌, arith, All}
+use Rattle.std.proofs.Common.{◌≡◌, ℕ, ◌+◌, ◌*◌, ◌%◌, ◌^◌, ◌≤◌, Bool, true, false, cond, List, [], ◌∷◌, ◌++◌, Some, refl, sym, ap, subst, ◌∙◌, arith, All}
 use Rattle.std.specs.Prelude.{◌==◌, Contains, flat_map, slice_get}
 use Rattle.std.specs.Option.{option_map_or}
 use Rattle.std.proofs.lemmas.List.Elements.{All-cons, All-contains, All-nil}
@@ -20,7 +20,7 @@ use Rattle.link_model.specs.declared.target.Target.{Target}
 use Rattle.link_model.specs.DynamicRels.{need_rels}
 use Rattle.link_model.specs.Inputs.{InputRel, all_rels}
 use Rattle.link_model.specs.Needs.{all_needs, descriptor_need, is_branch, is_function_kind, is_same_need, is_unusable, needs_for, needs_of, only_if, symbol_at, target_at}
-use Rattle.link_model.specs.Places.{data_end, data_place, need_place, text_end}
+use Rattle.link_model.specs.Places.{data_place, need_place, text_end}
 use Rattle.link_model.specs.Sections.{function_address, is_function}
 use Rattle.link_model.specs.Segments.{need_values}
 use Rattle.link_model.specs.Sites.{dynamic_rel}

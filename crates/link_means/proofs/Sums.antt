@@ -1,5 +1,5 @@
 -- The word of an address in a segment, as the sum of the placed symbol and the addend.
-use Rattle.std.proofs.Common.{◌≡◌, ℕ, ◌+◌, ◌%◌, ◌^◌, ◌<◌, ◌≤◌, inl, inr, ℤ, Bool, true, false, cond, not, ◌&&◌, ◌||◌, List, refl, sym, ap, subst, ◌∙◌, arith}
+use Rattle.std.proofs.Common.{◌≡◌, ℕ, ◌%◌, ◌^◌, ◌<◌, ◌≤◌, inl, inr, ℤ, Bool, true, false, cond, not, ◌&&◌, ◌||◌, List, refl, sym, ap, ◌∙◌, arith}
 use Rattle.std.specs.Prelude.{pos, negsuc, ◌+ℤ◌, ◌-ℤ◌, int_le, nat_le, Contains}
 use Rattle.std.proofs.lemmas.Bool.{and_parts, cases_lt, leb-true, or_cases}
 use Rattle.std.proofs.lemmas.Int.{ints}
@@ -27,7 +27,7 @@ use Rattle.link_means.specs.Values.{address_word, settled_value}
 use Rattle.link_means.specs.parts.Laws.{IsOutput}
 use Rattle.link_means.proofs.Addresses.{settled_addresses_mean}
 use Rattle.link_means.proofs.Distances.{small_in_data, small_in_text, spot_above, value_is}
-use Rattle.link_means.proofs.Held.{data_begins, got_ends}
+use Rattle.link_means.proofs.Held.{data_begins}
 use Rattle.link_means.proofs.Sharing.{data_small, shares_in_data, shares_in_text, text_address_small}
 use Rattle.link_means.proofs.Words.{holds_same}
 

@@ -32,12 +32,12 @@ use Rattle.link_means.proofs.Held.{held_stays}
 
 -- ---- segments that aren't written
 
--- what is filled meets no word of a segment that isn't writable
-pub unwritten_apart : (o : Object) (k : ℕ) (t : Segment) (v : ℕ) → IsSound o → slice_get o.segments k ≡ Some t → is_writable t ≡ false → t.vaddr ≤ v → v + 4 ≤ t.vaddr + t.memsz
-    → All (RangesApart (word_site v)) (filled_ranges o)
-unwritten_apart o k t v sound at unwritten from to = λ i d lt. each (get_or (filled_ranges o) i d) ((sound.in_place i d lt).writable)
+-- what is filled meets no bytes of a segment that isn't writable
+pub unwritten_range : (o : Object) (k : ℕ) (t : Segment) (v n : ℕ) → IsSound o → slice_get o.segments k ≡ Some t → is_writable t ≡ false
+    → t.vaddr ≤ v → v + n ≤ t.vaddr + t.memsz → All (RangesApart (record { addr = v; size = n })) (filled_ranges o)
+unwritten_range o k t v n sound at unwritten from to = λ i d lt. each (get_or (filled_ranges o) i d) ((sound.in_place i d lt).writable)
   where
-    each : (r : Site) → list_any (λ s. is_writable s && spans s r.addr r.size) o.segments ≡ true → RangesApart (word_site v) r
+    each : (r : Site) → list_any (λ s. is_writable s && spans s r.addr r.size) o.segments ≡ true → RangesApart (record { addr = v; size = n }) r
     each r writable =
         let found = any_at (λ (s : Segment). is_writable s && spans s r.addr r.size) o.segments writable in
         let j = found.0 in
@@ -52,6 +52,10 @@ unwritten_apart o k t v sound at unwritten from to = λ i d lt. each (get_or (fi
           | inl before ↦ inr (omega (arith, inside.1, before, from))
           | inr behind ↦ inl (omega (arith, inside.0, behind, to))
         ]
+
+pub unwritten_apart : (o : Object) (k : ℕ) (t : Segment) (v : ℕ) → IsSound o → slice_get o.segments k ≡ Some t → is_writable t ≡ false → t.vaddr ≤ v → v + 4 ≤ t.vaddr + t.memsz
+    → All (RangesApart (word_site v)) (filled_ranges o)
+unwritten_apart o k t v = unwritten_range o k t v 4
 
 -- ---- the text
 

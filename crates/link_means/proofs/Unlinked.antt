@@ -1,8 +1,8 @@
 -- Words with an address, and distances, that the linker doesn't settle; and words with a number.
-use Rattle.std.proofs.Common.{◌≡◌, ℕ, ◌+◌, ◌^◌, ◌<◌, ◌≤◌, inl, inr, Bool, true, false, cond, not, ◌&&◌, ◌||◌, List, [], ◌∷◌, Some, None, refl, sym, ap, subst, ◌∙◌, arith}
+use Rattle.std.proofs.Common.{◌≡◌, ℕ, inl, inr, true, false, ◌||◌, List, [], None, refl, subst}
 use Rattle.std.specs.Prelude.{◌==◌, Contains}
-use Rattle.std.proofs.lemmas.Bool.{eqb-true, false≢true, or_cases, or_parts}
-use Rattle.elf_model.specs.declared.constants.TheConstants.{R_ARM_ABS32, R_ARM_GOTOFF32, R_ARM_REL32, R_ARM_TARGET1}
+use Rattle.std.proofs.lemmas.Bool.{eqb-true, false≢true, or_cases}
+use Rattle.elf_model.specs.declared.constants.TheConstants.{R_ARM_GOTOFF32, R_ARM_REL32}
 use Rattle.elf_model.specs.declared.object.Object.{Object}
 use Rattle.elf_model.specs.declared.relocatable.RelObject.{RelObject}
 use Rattle.load_model.specs.Definition.{Linkage}
@@ -16,10 +16,9 @@ use Rattle.link_model.specs.Targets.{is_absolute}
 use Rattle.link_model.specs.parts.Laws.{AreClear}
 use Rattle.link_sites.specs.Loaded.{IsModule, LoadedWord}
 use Rattle.link_sites.proofs.Sites.{plain}
-use Rattle.link_means.specs.Linked.{AreOfBytes}
 use Rattle.link_means.specs.Means.{is_distance_kind}
 use Rattle.link_means.specs.Values.{address_word}
-use Rattle.link_means.specs.parts.Laws.{IsOutput, is_filled_kind}
+use Rattle.link_means.specs.parts.Laws.{AreOfBytes, IsOutput, is_filled_kind}
 use Rattle.link_means.proofs.Addresses.{address_kinds, its_word}
 use Rattle.link_means.proofs.Apart.{unfilled_free}
 use Rattle.link_means.proofs.Kept.{kept_is_plain}

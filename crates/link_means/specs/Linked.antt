@@ -5,6 +5,7 @@ use Rattle.elf_model.specs.declared.constants.TheConstants.{R_ARM_FUNCDESC_VALUE
 use Rattle.elf_model.specs.declared.object.Object.{Object}
 use Rattle.elf_model.specs.declared.object.Rel.{Rel}
 use Rattle.elf_model.specs.declared.relocatable.RelObject.{RelObject}
+use Rattle.elf_model.specs.declared.relocatable.RelSection.{RelSection}
 use Rattle.elf_model.specs.Places.{file_word}
 use Rattle.elf_model.specs.RelSound.{IsRelSound}
 use Rattle.elf_model.specs.Test.{first_failing}
@@ -15,7 +16,7 @@ use Rattle.load_model.specs.Image.{Placing, got_of}
 use Rattle.link_model.specs.declared.input.Lib.{Lib}
 use Rattle.link_model.specs.declared.input.Mode.{Mode}
 use Rattle.link_model.specs.declared.need.Need.TheVariants.{Descriptor}
-use Rattle.link_model.specs.Inputs.{InputRel, InputSection, all_rels, sections_of}
+use Rattle.link_model.specs.Inputs.{InputRel, all_rels}
 use Rattle.link_model.specs.Needs.{all_needs}
 use Rattle.link_model.specs.Object.{object_of}
 use Rattle.link_model.specs.Places.{need_place}
@@ -32,12 +33,12 @@ DescriptorsStand mode inputs l p m o =
     → LoadedWord l p m o (need_place mode inputs (Descriptor a)) (placed (p.maps m) a)
     × LoadedWord l p m o (need_place mode inputs (Descriptor a) + 4) (got_of p m)
 
--- the bytes of a section are numbers below 256
-abbrev pub IsOfBytes : InputSection → Type 0
-IsOfBytes x = (k : ℕ) → get_or (x.section).filled k 0 < 256
+-- bytes are numbers below 256
+abbrev pub HasBytes : RelSection → Type 0
+HasBytes s = (k : ℕ) → get_or s.filled k 0 < 256
 
-abbrev pub AreOfBytes : List RelObject → Type 0
-AreOfBytes inputs = All IsOfBytes (sections_of inputs)
+abbrev pub IsOfBytes : RelObject → Type 0
+IsOfBytes o = All HasBytes o.sections
 
 abbrev pub is_pair : Rel → Bool
 is_pair r = r.kind == R_ARM_FUNCDESC_VALUE
@@ -51,8 +52,8 @@ pub record IsLinked (mode : Mode) (soname : List ℕ) (inputs : List RelObject) 
   -- a function has one descriptor
   pub one_descriptor : AllPairs (λ r q. file_word o.segments r.site ≢ file_word o.segments q.site) (filter is_pair o.rels)
 
--- the law of programs that stand alone, made of accepted files whose bytes are bytes
-abbrev pub LinkedMeansStatic : Type 0
-LinkedMeansStatic =
-    (mode : Mode) (soname : List ℕ) (inputs : List RelObject) (libs : List Lib) → is_static mode ≡ true → All IsRelSound inputs → AreOfBytes inputs
+-- the law: of accepted files whose bytes are bytes
+abbrev pub LinkedMeans : Type 0
+LinkedMeans =
+    (mode : Mode) (soname : List ℕ) (inputs : List RelObject) (libs : List Lib) → All IsRelSound inputs → All IsOfBytes inputs
     → first_failing (tests written_sizes mode soname inputs libs) ≡ None → IsLinked mode soname inputs libs (object_of mode soname inputs libs)

@@ -1,6 +1,6 @@
 //! What holds of linked objects after loading. A call of one does nothing.
 
-ghost use Rattle.link_means.specs.Linked.{LinkedMeansStatic};
+ghost use Rattle.link_means.specs.Linked.{LinkedMeans};
 ghost use Rattle.link_means.specs.parts.Laws.{
   DistancesMean,
   IdleBranchesMean,
@@ -40,8 +40,8 @@ pub fn distances_mean()
     ensures { DistancesMean }
 {}
 
-/// A program that stands alone is linked: loading makes each relocation of its inputs mean what its kind says, wherever the
-/// program lies.
-pub fn linked_means_static()
-    ensures { LinkedMeansStatic }
+/// What is made of inputs that pass the tests is linked: loading makes each of their relocations mean what its kind says,
+/// wherever the object lies.
+pub fn linked_means()
+    ensures { LinkedMeans }
 {}

@@ -5,6 +5,6 @@
 mod laws;
 
 pub use laws::{
-    distances_mean, idle_branches_mean, linked_is_output, linked_means_static,
-    settled_addresses_mean, settled_branches_mean, words_stay,
+    distances_mean, idle_branches_mean, linked_is_output, linked_means, settled_addresses_mean,
+    settled_branches_mean, words_stay,
 };

@@ -10,3 +10,5 @@ pub mod Agreeing
 pub mod Written
 pub mod Passed
 pub mod Naming
+pub mod Located
+pub mod Taken

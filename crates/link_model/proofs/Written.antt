@@ -52,11 +52,11 @@ use Rattle.link_model.proofs.Sited.{address, one_or_apart}
 
 -- ---- the greatest of some numbers
 
-greatest_from : {X : Type 0} (f : X → ℕ) (least : ℕ) (xs : List X) → least ≤ greatest least f xs
+pub greatest_from : {X : Type 0} (f : X → ℕ) (least : ℕ) (xs : List X) → least ≤ greatest least f xs
 greatest_from f least [] = omega arith
 greatest_from f least (x ∷ xs) = let rest = greatest_from f (max least (f x)) xs in omega (arith, rest)
 
-greatest_above : {X : Type 0} (f : X → ℕ) (least : ℕ) (xs : List X) (x : X) → Contains xs x → f x ≤ greatest least f xs
+pub greatest_above : {X : Type 0} (f : X → ℕ) (least : ℕ) (xs : List X) (x : X) → Contains xs x → f x ≤ greatest least f xs
 greatest_above f least [] x there = absurd (nothing_in x there)
 greatest_above f least (y ∷ xs) x there = elim (first_or_later y x xs there) [
   | inl same ↦
@@ -66,7 +66,7 @@ greatest_above f least (y ∷ xs) x there = elim (first_or_later y x xs there) [
   | inr later ↦ greatest_above f (max least (f y)) xs x later
 ]
 
-greatest_below : {X : Type 0} (f : X → ℕ) (least most : ℕ) (xs : List X) → least ≤ most → ((x : X) → Contains xs x → f x ≤ most) → greatest least f xs ≤ most
+pub greatest_below : {X : Type 0} (f : X → ℕ) (least most : ℕ) (xs : List X) → least ≤ most → ((x : X) → Contains xs x → f x ≤ most) → greatest least f xs ≤ most
 greatest_below f least most [] le each = le
 greatest_below {X = X} f least most (x ∷ xs) le each =
     let here = each x (contains_first x x xs refl) in
@@ -108,7 +108,7 @@ module _ (mode : Mode) (inputs : List RelObject) where
   -- ---- where sections and words end
 
   -- a section of the text that isn't one of zeros lies in the file
-  text_in_file : (x : InputSection) → Contains (sections_of inputs) x → is_writable x ≡ false → is_nobits x ≡ false → section_place mode inputs x.index + (x.section).size ≤ text_filled_end mode inputs
+  pub text_in_file : (x : InputSection) → Contains (sections_of inputs) x → is_writable x ≡ false → is_nobits x ≡ false → section_place mode inputs x.index + (x.section).size ≤ text_filled_end mode inputs
   text_in_file x there text bytes = by (length (slot_keys mode inputs) == 0) refl
     where
       ends : InputSection → ℕ
@@ -127,7 +127,7 @@ module _ (mode : Mode) (inputs : List RelObject) where
           let is : text_filled_end mode inputs ≡ text_end mode inputs = ap (λ b. cond b (greatest 0 ends kept) (text_end mode inputs)) e in
           omega (arith, is, (text_between mode inputs x there text).to)
 
-  text_filled_below : text_filled_end mode inputs ≤ text_end mode inputs
+  pub text_filled_below : text_filled_end mode inputs ≤ text_end mode inputs
   text_filled_below = by (length (slot_keys mode inputs) == 0) refl
     where
       ends : InputSection → ℕ
@@ -150,10 +150,10 @@ module _ (mode : Mode) (inputs : List RelObject) where
           let is : text_filled_end mode inputs ≡ text_end mode inputs = ap (λ b. cond b (greatest 0 ends kept) (text_end mode inputs)) e in
           omega (arith, is)
 
-  got_in_file : got_end mode inputs ≤ filled_end mode inputs
+  pub got_in_file : got_end mode inputs ≤ filled_end mode inputs
   got_in_file = end_from (got_end mode inputs) (map piece_of (filled_sections inputs))
 
-  filled_below : filled_end mode inputs ≤ data_end mode inputs
+  pub filled_below : filled_end mode inputs ≤ data_end mode inputs
   unfolding data_end
   filled_below =
       let parts : zeros_end mode inputs ≡ end_of (filled_end mode inputs) (map piece_of (writable_sections is_nobits inputs)) =

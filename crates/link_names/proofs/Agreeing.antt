@@ -1,5 +1,5 @@
 -- What is made of groups by their numbers is what the definitions say by name.
-use Rattle.std.proofs.Common.{◌≡◌, ℕ, suc, ◌+◌, ◌<◌, ◌≢◌, ◌⊎◌, inl, inr, List, [], ◌∷◌, ◌++◌, map, length, get_or, true, false, cond, Some, refl, ap, sym, subst, ◌∙◌, arith, All}
+use Rattle.std.proofs.Common.{◌≡◌, ℕ, suc, ◌+◌, ◌<◌, inl, inr, List, [], ◌∷◌, ◌++◌, map, length, get_or, true, false, cond, Some, refl, ap, sym, subst, ◌∙◌, arith, All}
 use Rattle.std.specs.Prelude.{Contains, slice_get, option_and_then, unwrap_or}
 use Rattle.std.specs.List.{enumerate_from, flat_map}
 use Rattle.std.specs.Str.{bytes_eq}
@@ -10,15 +10,15 @@ use Rattle.fd_base.proofs.Members.{contains_at, all_contained, in_filter, in_map
 use Rattle.elf_model.specs.declared.relocatable.RelObject.{RelObject}
 use Rattle.link_model.specs.declared.input.Mode.{Mode}
 use Rattle.link_model.specs.declared.target.Target.{Target}
-use Rattle.link_model.specs.Inputs.{InputSymbol, numbered, symbols_in, symbols_of, symbol_of}
+use Rattle.link_model.specs.Inputs.{numbered, symbols_in, symbols_of, symbol_of}
 use Rattle.link_model.specs.Joined.{names_of, of_name, joined_of, is_joined, name_of, definition_taken}
-use Rattle.link_model.specs.Targets.{LinkTest, name_number, joined_target, target_of_name, targets_of, target_of, own_target, name_tests, all_name_tests}
+use Rattle.link_model.specs.Targets.{name_number, joined_target, target_of_name, targets_of, target_of, own_target, all_name_tests}
 use Rattle.elf_model.specs.declared.object.Symbol.{Symbol}
 use Rattle.elf_model.specs.Symbols.{null_symbol}
 use Rattle.link_model.proofs.Numbering.{in_numbered}
 use Rattle.link_names.specs.parts.Joining.{HasInput}
 use Rattle.link_model.proofs.Naming.{named, names_are_numbered}
-use Rattle.link_names.specs.parts.Grouped.{Groups, groups_of, group_tests, all_group_tests, group_targets}
+use Rattle.link_names.specs.parts.Grouped.{groups_of, group_tests, all_group_tests, group_targets}
 
 -- ---- the element of a number
 

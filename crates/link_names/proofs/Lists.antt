@@ -1,11 +1,10 @@
 -- Lists: what is first among those that pass a test.
-use Rattle.std.proofs.Common.{◌≡◌, ◌⊎◌, inl, inr, Bool, true, false, cond, List, [], ◌∷◌, filter, Option, Some, None, All, refl, ap, sym, ◌∙◌}
-use Rattle.std.specs.Prelude.{slice_get, find, Contains, ◌&&◌, ◌==◌, ℕ}
+use Rattle.std.proofs.Common.{◌≡◌, Bool, true, false, List, [], ◌∷◌, filter, Option, refl}
+use Rattle.std.specs.Prelude.{slice_get, find, ◌&&◌, ◌==◌, ℕ}
 use Rattle.std.specs.Option.{option_or}
-use Rattle.fd_base.proofs.Members.{contains_at, in_filter}
 use Rattle.elf_model.specs.declared.constants.TheConstants.{STB_GLOBAL, STB_WEAK}
 use Rattle.link_model.specs.Inputs.{InputSymbol}
-use Rattle.link_model.specs.Joined.{defines, is_common, definitions_of, commons_of, first_of, definition_taken}
+use Rattle.link_model.specs.Joined.{defines, is_common, definition_taken}
 
 pub first_filtered : {X : Type 0} (p : X → Bool) (xs : List X) → slice_get (filter p xs) 0 ≡ find p xs
 first_filtered p [] = refl
@@ -27,21 +26,3 @@ taken_first xs =
     let common = first_filtered (λ x. is_common (x.symbol).place) xs in
     let weak = first_filtered (λ x. defines (x.symbol).place && (x.symbol).binding == STB_WEAK) xs in
     λ i. option_or (global i) (option_or (common i) (weak i))
-
--- which of two it is
-either : {X : Type 0} (a b : Option X) (x : X) → option_or a b ≡ Some x → (a ≡ Some x) ⊎ (b ≡ Some x)
-either None b x is = inr is
-either (Some y) b x is = inl is
-
-passed : (p : InputSymbol → Bool) (xs : List InputSymbol) (x : InputSymbol) → first_of (filter p xs) ≡ Some x → Contains xs x
-passed p xs x is = (in_filter p xs x (contains_at (filter p xs) 0 x is)).0
-
-pub taken_in : (xs : List InputSymbol) (x : InputSymbol) → definition_taken xs ≡ Some x → Contains xs x
-taken_in xs x is =
-    elim (either (first_of (definitions_of STB_GLOBAL xs)) (option_or (first_of (commons_of xs)) (first_of (definitions_of STB_WEAK xs))) x is) [
-      | inl global ↦ passed (λ x. defines (x.symbol).place && (x.symbol).binding == STB_GLOBAL) xs x global
-      | inr more ↦ elim (either (first_of (commons_of xs)) (first_of (definitions_of STB_WEAK xs)) x more) [
-        | inl common ↦ passed (λ x. is_common (x.symbol).place) xs x common
-        | inr weak ↦ passed (λ x. defines (x.symbol).place && (x.symbol).binding == STB_WEAK) xs x weak
-      ]
-    ]

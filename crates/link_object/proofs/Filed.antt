@@ -1,18 +1,16 @@
 -- What stands in the file's bytes of a segment: the sections that have bytes, and the words that the linker writes.
-use Rattle.std.proofs.Common.{◌≡◌, ℕ, ◌+◌, ◌*◌, ◌<◌, ◌≤◌, ◌⊎◌, inl, inr, Bool, true, false, cond, not, List, [], ◌∷◌, ◌++◌, length, map, filter, Some, refl, ap, sym, ◌∙◌, arith, All}
-use Rattle.std.specs.Prelude.{◌==◌, option_map, Contains, max}
+use Rattle.std.proofs.Common.{◌≡◌, ℕ, ◌+◌, ◌*◌, ◌<◌, ◌≤◌, inl, inr, Bool, true, false, cond, not, List, ◌++◌, length, map, filter, Some, refl, ap, arith, All}
+use Rattle.std.specs.Prelude.{◌==◌, option_map, Contains}
 use Rattle.std.proofs.lemmas.Bool.Decides.{nat_tests}
-use Rattle.std.proofs.lemmas.List.{map-append}
 use Rattle.std.proofs.lemmas.List.Elements.{Contains-append_cases}
 use Rattle.std.proofs.lemmas.Option.{slice_get_within}
-use Rattle.fd_base.proofs.Members.{contains_first, contains_later, first_or_later, nothing_in, in_flat_map, filter_in, in_filter, in_filter_map}
+use Rattle.fd_base.proofs.Members.{in_flat_map, in_filter_map}
 use Rattle.fd_base.proofs.Options.{from_map}
 use Rattle.elf_model.specs.declared.relocatable.RelObject.{RelObject}
 use Rattle.elf_model.specs.RelSound.{IsRelSound, filled_size}
 use Rattle.plt_code.specs.Words.{entry_words}
 use Rattle.load_model.specs.declared.words.LinkWord.{LinkWord}
-use Rattle.link_layout.specs.Layout.{end_of}
-use Rattle.link_layout.proofs.Lying.{end_from, end_append}
+use Rattle.link_layout.proofs.Lying.{end_from}
 use Rattle.link_model.specs.declared.input.Mode.{Mode}
 use Rattle.link_model.specs.declared.limits.TheConstants.{PLT_ENTRY_SIZE}
 use Rattle.link_model.specs.declared.need.Need.{Need}
@@ -21,38 +19,17 @@ use Rattle.link_model.specs.GotLayout.{use_size}
 use Rattle.link_model.specs.Inputs.{InputSection, InputRel, numbered, sections_of, all_rels}
 use Rattle.link_model.specs.Joined.{greatest}
 use Rattle.link_model.specs.Needs.{all_needs, offset_of, kind_of, slot_keys}
-use Rattle.link_model.specs.Places.{plt_place, plt_entry, text_end, data_place, got_end, need_place, filled_end, zeros_end, data_end, section_place, blocks_of, block_piece}
-use Rattle.link_model.specs.Sections.{is_writable, is_nobits, text_sections, writable_sections, filled_sections, piece_of, text_place, text_sections_end}
+use Rattle.link_model.specs.Places.{plt_place, plt_entry, text_end, data_place, need_place, zeros_end, data_end, section_place, blocks_of, block_piece}
+use Rattle.link_model.specs.Sections.{is_writable, is_nobits, text_sections, text_place, text_sections_end}
 use Rattle.link_model.specs.Segments.{word_at, site_words, plt_entry_words, plt_words, need_values, need_words, got_words, words_of, text_filled_end}
 use Rattle.link_model.specs.Sites.{site_address, site_word}
-use Rattle.link_model.specs.parts.Laws.{need_range}
 use Rattle.link_model.proofs.Agreeing.{row_inside}
 use Rattle.link_model.proofs.Needed.{stands}
 use Rattle.link_model.proofs.Numbering.{numbered_at, section_of_rel, section_sound, rel_inside}
-use Rattle.link_model.proofs.Placed.{text_below, data_above, sections_lie_apart, text_between, file_between, place_in_text, text_lies, in_text_sections}
-use Rattle.link_model.proofs.Written.{InText, InData, InFile}
+use Rattle.link_model.proofs.Placed.{data_above, sections_lie_apart, text_between, file_between}
+use Rattle.link_model.proofs.Written.{greatest_above, greatest_below, greatest_from, text_in_file, got_in_file, filled_below, InFile}
 
 -- ---- the greatest of some numbers
-
-greatest_from : {X : Type 0} (f : X → ℕ) (least : ℕ) (xs : List X) → least ≤ greatest least f xs
-greatest_from f least [] = omega arith
-greatest_from f least (x ∷ xs) = let rest = greatest_from f (max least (f x)) xs in omega (arith, rest)
-
-pub greatest_above : {X : Type 0} (f : X → ℕ) (least : ℕ) (xs : List X) (x : X) → Contains xs x → f x ≤ greatest least f xs
-greatest_above f least [] x there = absurd (nothing_in x there)
-greatest_above f least (y ∷ xs) x there = elim (first_or_later y x xs there) [
-  | inl same ↦
-      let from = greatest_from f (max least (f y)) xs in
-      let here : f y ≡ f x = ap f same in
-      omega (arith, from, here)
-  | inr later ↦ greatest_above f (max least (f y)) xs x later
-]
-
-pub greatest_below : {X : Type 0} (f : X → ℕ) (least most : ℕ) (xs : List X) → least ≤ most → ((x : X) → Contains xs x → f x ≤ most) → greatest least f xs ≤ most
-greatest_below f least most [] le each = le
-greatest_below {X = X} f least most (x ∷ xs) le each =
-    let here = each x (contains_first x x xs refl) in
-    greatest_below f (max least (f x)) most xs (omega (arith, le, here)) (λ y there. each y (contains_later x y xs there))
 
 -- it counts the members alone
 pub greatest_alike : {X : Type 0} (f : X → ℕ) (least : ℕ) (xs ys : List X) → ((x : X) → Contains xs x → Contains ys x) → ((y : X) → Contains ys y → Contains xs y)
@@ -64,61 +41,6 @@ greatest_alike f least xs ys to back =
 
 module _ (mode : Mode) (inputs : List RelObject) where
   -- ---- sections
-
-  -- a section of the text that isn't one of zeros lies in the file
-  pub text_in_file : (x : InputSection) → Contains (sections_of inputs) x → is_writable x ≡ false → is_nobits x ≡ false → section_place mode inputs x.index + (x.section).size ≤ text_filled_end mode inputs
-  text_in_file x there text bytes = by (length (slot_keys mode inputs) == 0) refl
-    where
-      ends : InputSection → ℕ
-      ends y = text_place inputs y.index + (y.section).size
-
-      kept : List InputSection
-      kept = filter (λ y. not (is_nobits y)) (text_sections inputs)
-
-      by : (b : Bool) → (length (slot_keys mode inputs) == 0) ≡ b → section_place mode inputs x.index + (x.section).size ≤ text_filled_end mode inputs
-      by true e =
-          let is : text_filled_end mode inputs ≡ greatest 0 ends kept = ap (λ b. cond b (greatest 0 ends kept) (text_end mode inputs)) e in
-          let place = place_in_text mode inputs x there text in
-          let le = greatest_above ends 0 kept x (filter_in (λ y. not (is_nobits y)) (text_sections inputs) x (in_text_sections inputs x there text) (ap not bytes)) in
-          omega (arith, is, place, le)
-      by false e =
-          let is : text_filled_end mode inputs ≡ text_end mode inputs = ap (λ b. cond b (greatest 0 ends kept) (text_end mode inputs)) e in
-          omega (arith, is, (text_between mode inputs x there text).to)
-
-  pub text_filled_below : text_filled_end mode inputs ≤ text_end mode inputs
-  text_filled_below = by (length (slot_keys mode inputs) == 0) refl
-    where
-      ends : InputSection → ℕ
-      ends y = text_place inputs y.index + (y.section).size
-
-      kept : List InputSection
-      kept = filter (λ y. not (is_nobits y)) (text_sections inputs)
-
-      each : (y : InputSection) → Contains kept y → ends y ≤ text_end mode inputs
-      each y there =
-          let of = (in_filter (λ z. not (is_nobits z)) (text_sections inputs) y there).0 in
-          omega (arith, (text_lies inputs y of).to, text_below mode inputs)
-
-      by : (b : Bool) → (length (slot_keys mode inputs) == 0) ≡ b → text_filled_end mode inputs ≤ text_end mode inputs
-      by true e =
-          let is : text_filled_end mode inputs ≡ greatest 0 ends kept = ap (λ b. cond b (greatest 0 ends kept) (text_end mode inputs)) e in
-          let le = greatest_below ends 0 (text_end mode inputs) kept (omega arith) each in
-          omega (arith, is, le)
-      by false e =
-          let is : text_filled_end mode inputs ≡ text_end mode inputs = ap (λ b. cond b (greatest 0 ends kept) (text_end mode inputs)) e in
-          omega (arith, is)
-
-  pub got_in_file : got_end mode inputs ≤ filled_end mode inputs
-  got_in_file = end_from (got_end mode inputs) (map piece_of (filled_sections inputs))
-
-  pub filled_below : filled_end mode inputs ≤ data_end mode inputs
-  unfolding data_end
-  filled_below =
-      let parts : zeros_end mode inputs ≡ end_of (filled_end mode inputs) (map piece_of (writable_sections is_nobits inputs)) =
-      ap (end_of (got_end mode inputs)) (map-append piece_of (filled_sections inputs) (writable_sections is_nobits inputs)) ∙ end_append (got_end mode inputs) (map piece_of (filled_sections inputs)) (map piece_of (writable_sections is_nobits inputs)) in
-      let zeros = end_from (filled_end mode inputs) (map piece_of (writable_sections is_nobits inputs)) in
-      let blocks = end_from (zeros_end mode inputs) (map block_piece (blocks_of mode inputs)) in
-      omega (arith, parts, zeros, blocks)
 
   -- the file has no more bytes of a section than there are, and none of zeros
   pub record IsFilled (x : InputSection) : Type 0 where
@@ -163,7 +85,7 @@ module _ (mode : Mode) (inputs : List RelObject) where
       by false text =
           let own = (section_of_rel inputs x from.1).0 in
           let inside = rel_inside inputs sound x from.1 in
-          let le = text_in_file x.at own text inside.bytes in
+          let le = text_in_file mode inputs x.at own text inside.bytes in
           inl (record { text_to = omega (arith, here, le, inside.within) })
 
   entry_in_file : (w : LinkWord) → Contains (plt_words mode inputs) w → InFile mode inputs w
@@ -193,7 +115,7 @@ module _ (mode : Mode) (inputs : List RelObject) where
       let n = from.0 in
       let inside = row_inside (need_place mode inputs n) (use_size (kind_of n)) (need_values mode inputs n) (room n) w from.2 in
       let s = stands mode inputs n from.1 in
-      inr (record { data_from = omega (arith, inside.above, s.from); data_to = omega (arith, inside.below, s.to, got_in_file) })
+      inr (record { data_from = omega (arith, inside.above, s.from); data_to = omega (arith, inside.below, s.to, got_in_file mode inputs) })
 
   pub word_in_file : All IsRelSound inputs → (w : LinkWord) → Contains (words_of mode inputs) w → InFile mode inputs w
   word_in_file sound w there = elim (Contains-append_cases (site_words mode inputs) (plt_words mode inputs ++ got_words mode inputs) w there) [
@@ -204,7 +126,7 @@ module _ (mode : Mode) (inputs : List RelObject) where
   -- ---- ends
 
   pub data_from : data_place mode inputs ≤ data_end mode inputs
-  data_from = omega (arith, got_in_file, filled_below)
+  data_from = omega (arith, got_in_file mode inputs, filled_below mode inputs)
 
   -- no section ends behind the data
   pub section_below : (x : InputSection) → Contains (sections_of inputs) x → section_place mode inputs x.index + (x.section).size ≤ data_end mode inputs

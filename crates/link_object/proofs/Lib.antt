@@ -1,6 +1,6 @@
 mod Arrays
 mod Copied
-mod Filed
+pub mod Filed
 mod Gathered
 mod Greatest
 mod Located

@@ -1,5 +1,5 @@
 -- In an object that ends below 2^32 all that has been looked up of relocations fits words.
-use Rattle.std.proofs.Common.{◌≡◌, ℕ, ◌+◌, ◌^◌, ◌<◌, Bool, true, false, cond, List, refl, ap, sym, subst, ◌∙◌, arith, All}
+use Rattle.std.proofs.Common.{ℕ, ◌+◌, ◌^◌, ◌<◌, Bool, true, false, cond, List, arith, All}
 use Rattle.std.specs.Prelude.{◌==◌, Contains}
 use Rattle.std.specs.List.{AllZip}
 use Rattle.fd_base.proofs.Lists.{all_from, zip_at_right}
@@ -11,7 +11,7 @@ use Rattle.link_model.specs.declared.input.Mode.{Mode}
 use Rattle.link_model.specs.declared.need.Need.TheVariants.{Word, FuncWord}
 use Rattle.link_model.specs.Inputs.{InputRel, all_rels}
 use Rattle.link_model.specs.Needs.{all_needs, offset_of, descriptor_need, is_function_kind, target_at}
-use Rattle.link_model.specs.Places.{data_place, data_end, section_place}
+use Rattle.link_model.specs.Places.{data_place, data_end}
 use Rattle.link_model.specs.Sites.{site_address}
 use Rattle.link_model.proofs.Numbering.{section_of_rel, rel_inside}
 use Rattle.link_words.specs.declared.facts.Facts.{Facts}

@@ -1,7 +1,7 @@
 -- The file's bytes of one segment.
-use Rattle.std.proofs.Common.{◌≡◌, ℕ, zero, suc, ◌+◌, ◌-◌, ◌^◌, ◌<◌, ◌≤◌, ◌⊎◌, inl, inr, Bool, true, false, cond, not, ◌&&◌, List, [], ◌∷◌, length, map, filter, slice_index, refl, ap, sym, ◌∙◌, arith, All}
-use Rattle.std.specs.Prelude.{nat_lt, Contains}
-use Rattle.std.specs.List.{AllZip, range_with_len}
+use Rattle.std.proofs.Common.{◌≡◌, ℕ, zero, suc, ◌+◌, ◌-◌, ◌<◌, ◌≤◌, inl, inr, Bool, true, false, cond, not, ◌&&◌, List, [], ◌∷◌, length, map, filter, slice_index, refl, ap, sym, ◌∙◌, arith, All}
+use Rattle.std.specs.Prelude.{Contains}
+use Rattle.std.specs.List.{range_with_len}
 use Rattle.std.proofs.lemmas.Bool.Decides.{nat_tests}
 use Rattle.std.proofs.lemmas.Bool.{and_parts, cases_lt, not-true}
 use Rattle.fd_base.proofs.Lists.{all_from, zip_at_right}
@@ -16,15 +16,16 @@ use Rattle.load_image.specs.parts.Bounds.{IsWordWhole}
 use Rattle.load_image.proofs.ImageParts.{byte_over-same}
 use Rattle.link_model.specs.declared.input.Mode.{Mode}
 use Rattle.link_model.specs.Inputs.{InputSection, sections_of}
-use Rattle.link_model.specs.Places.{text_end, data_place, data_end, filled_end, section_place}
+use Rattle.link_model.specs.Places.{section_place}
 use Rattle.link_model.specs.Sections.{is_writable}
-use Rattle.link_model.specs.Segments.{section_byte, words_of, linked_byte, linked_bytes, text_filled_end}
+use Rattle.link_model.specs.Segments.{section_byte, words_of, linked_byte, linked_bytes}
 use Rattle.link_model.proofs.Placed.{data_above, text_between, file_between}
 use Rattle.link_model.proofs.Written.{InFile}
 use Rattle.link_words.specs.declared.contents.Content.{Content}
 use Rattle.link_words.specs.parts.Contents.{LiesIn, AreContentsOf, IsContentOf}
 use Rattle.link_object.specs.parts.Filled.{has_bytes, is_copied, file_start, file_end}
-use Rattle.link_object.proofs.Filed.{text_in_file, text_filled_below, got_in_file, filled_of, word_in_file}
+use Rattle.link_object.proofs.Filed.{filled_of, word_in_file}
+use Rattle.link_model.proofs.Written.{text_in_file, text_filled_below, got_in_file}
 
 range_agree : {X : Type 0} (f g : ℕ → X) (a n : ℕ) → ((v : ℕ) → a ≤ v → v < a + n → f v ≡ g v) → map f (range_with_len a n) ≡ map g (range_with_len a n)
 range_agree f g a zero same = refl

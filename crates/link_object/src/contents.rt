@@ -1,31 +1,21 @@
 //! The contents of the sections of a segment.
 
-ghost use Rattle.std.specs.Prelude.{◌≡◌, ◌<◌, ◌^◌, List, Contains, filter, length, IfOk};
+ghost use Rattle.std.specs.Prelude.{◌≡◌, ◌<◌, ◌^◌, List, Contains, filter, IfOk};
 ghost use Rattle.elf_model.specs.declared.relocatable.RelObject.{RelObject};
 ghost use Rattle.link_model.specs.declared.input.Mode.{Mode};
 ghost use Rattle.link_model.specs.Inputs.{InputSection, sections_of};
 ghost use Rattle.link_model.specs.Places as places;
-ghost use Rattle.link_names.specs.parts.Joining.{HasInput};
 ghost use Rattle.link_places.specs.parts.Heads.{head_of, heads_of};
 ghost use Rattle.link_words.specs.parts.Contents.{AreContentsOf, IsContentOf};
 ghost use Rattle.link_object.specs.parts.Filled.{is_copied, is_of_part};
 
-use elf_model::{RelObjects, RelSection};
 use fd_base::{Memory, Seq};
-use link_places::{Layout, SectionHead};
+use link_places::{Layout, SectionHead, section_of};
 use link_words::Content;
 use std::alloc::Global;
 
 /// The contents of sections, by number.
 pub(crate) type Contents<'a> = Seq<Content<'a>>;
-
-fn section_of<'a>(inputs: &'a RelObjects, head: &SectionHead) -> &'a RelSection
-    requires { HasInput inputs.now head.now.input (λ o. head.now.number < length o.sections) }
-    ensures { (x : InputSection) → Contains (sections_of inputs.now) x → head.now ≡ head_of x → result.now ≡ x.section }
-{
-    let object = &inputs.as_slice()[head.input as usize];
-    &object.sections.as_slice()[head.number as usize]
-}
 
 fn content_of<'a>(layout: &Layout<'a>, head: &SectionHead) -> Content<'a>
     requires known { Contains (heads_of layout.now.text.inputs.now) head.now }
@@ -35,7 +25,9 @@ fn content_of<'a>(layout: &Layout<'a>, head: &SectionHead) -> Content<'a>
 {
     Content {
         place: layout.section_place(head.index) as u32,
-        bytes: section_of(layout.text.inputs, head).filled.as_slice(),
+        bytes: section_of(layout.text.inputs.as_slice(), head)
+            .filled
+            .as_slice(),
     }
 }
 

@@ -1,17 +1,14 @@
 //! The linked object.
 
-ghost use Rattle.std.specs.Prelude.{◌≡◌, ◌<◌, ◌^◌, [], All, map, Option, Some, None, unwrap_or, IfOk, if◌then◌else◌};
-ghost use Rattle.std.specs.List.{AllZip};
+ghost use Rattle.std.specs.Prelude.{◌≡◌, ◌<◌, ◌^◌, [], All, Some, None, unwrap_or, IfOk, if◌then◌else◌};
 ghost use Rattle.elf_model.specs.RelSound.{IsRelSound};
 ghost use Rattle.elf_model.specs.declared.object.Kind.TheVariants as kinds;
-ghost use Rattle.link_model.specs.DynamicSymbols.{shown_targets};
 ghost use Rattle.link_model.specs.Inputs.{all_rels};
 ghost use Rattle.link_model.specs.Object.{needed_of, object_of};
 ghost use Rattle.link_model.specs.Places.{data_end};
 ghost use Rattle.link_model.specs.Targets.{is_shared, is_static};
 ghost use Rattle.link_checks.specs.parts.Entry.{entry_of};
-ghost use Rattle.link_got.specs.parts.Keyed.{joining_of};
-ghost use Rattle.link_words.specs.parts.Facts.{AreFacts, AreNear};
+ghost use Rattle.link_checks.specs.parts.Found.{AreFound};
 
 use crate::extents::inits;
 use crate::rels::Relocated;
@@ -20,11 +17,9 @@ use crate::symbols::dynamic_symbols;
 use crate::words::linked_words;
 use elf_model::{Kind, Object};
 use fd_base::{Memory, Name, Names, Seq};
-use link_checks::Shown;
+use link_checks::Linking;
 use link_got::slot_rels;
 use link_model::{Lib, Libs, Mode};
-use link_names::Joined;
-use link_places::Layout;
 use link_words::Facts;
 use std::alloc::Global;
 
@@ -77,30 +72,28 @@ fn needed(alloc: Global, mode: Mode, libs: &Libs) -> Result<Names, Memory>
     }
 }
 
-/// The object that inputs are linked to, from their joined symbols, the layout, the symbols that the loader sees, what has
-/// been looked up of all relocations, and the link address where a program begins.
+/// The object that inputs are linked to, from all that the link has settled, what has been looked up of all relocations,
+/// and the link address where a program begins.
 #[tactic(auto, unfolding(link_model::specs::Object::object_of))]
 pub fn linked_object(
     alloc: Global,
     soname: &Name,
     libs: &Libs,
-    joined: &Joined<'_>,
-    layout: &Layout<'_>,
-    shown: &Shown,
+    linking: &Linking<'_>,
     facts: &[Facts],
     entry: u32,
 ) -> Result<Object, Memory>
-    requires sound { All IsRelSound layout.now.text.inputs.now }
-    requires small { data_end layout.now.mode layout.now.text.inputs.now < 2 ^ 32 }
-    requires one { joined.now ≡ joining_of layout.now }
-    requires shown { shown.now ≡ shown_targets layout.now.mode layout.now.text.inputs.now }
-    requires near { All AreNear facts.now }
-    requires found { AllZip (AreFacts layout.now.mode layout.now.text.inputs.now) (all_rels layout.now.text.inputs.now) facts.now }
-    requires entry { entry ≡ entry_of layout.now.mode layout.now.text.inputs.now }
-    ensures { IfOk result (λ o. o ≡ object_of layout.now.mode soname.now layout.now.text.inputs.now libs.now) }
+    requires sound { All IsRelSound linking.now.layout.text.inputs.now }
+    requires small { data_end linking.now.layout.mode linking.now.layout.text.inputs.now < 2 ^ 32 }
+    requires found { AreFound linking.now.layout.mode linking.now.layout.text.inputs.now (all_rels linking.now.layout.text.inputs.now) facts.now }
+    requires entry { entry ≡ entry_of linking.now.layout.mode linking.now.layout.text.inputs.now }
+    ensures object { IfOk result (λ o. o ≡ object_of linking.now.layout.mode soname.now linking.now.layout.text.inputs.now libs.now) }
+    ensures sizes { IfOk result (λ o. All (λ s. s.size < 2 ^ 32) o.symbols) }
 {
+    let joined = &linking.joined;
+    let layout = &linking.layout;
     let words = linked_words(alloc, joined, layout, facts)?;
-    let relocated = Relocated::new(alloc, joined, layout, shown, facts)?;
+    let relocated = Relocated::new(alloc, joined, layout, &linking.shown, facts)?;
     Ok(Object {
         kind: kind(layout.mode),
         entry,
@@ -108,9 +101,9 @@ pub fn linked_object(
         got: layout.data_place() as u32,
         needed: needed(alloc, layout.mode, libs)?,
         soname: own_name(alloc, layout.mode, soname)?,
-        symbols: dynamic_symbols(alloc, joined, layout, shown.targets())?,
+        symbols: dynamic_symbols(alloc, joined, layout, linking.shown.targets())?,
         rels: relocated.rels,
-        jmprels: slot_rels(alloc, layout, shown)?,
+        jmprels: slot_rels(alloc, layout, &linking.shown)?,
         fixups: relocated.fixups,
         symbolic: false,
         now: false,

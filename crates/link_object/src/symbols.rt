@@ -1,6 +1,6 @@
 //! The symbols that the loader sees.
 
-ghost use Rattle.std.specs.Prelude.{◌≡◌, ◌++◌, ◌∷◌, map, IfOk, OnOk};
+ghost use Rattle.std.specs.Prelude.{◌≡◌, ◌^◌, ◌<◌, ◌∷◌, All, map, IfOk};
 ghost use Rattle.elf_model.specs.Symbols as elf;
 ghost use Rattle.link_model.specs.DynamicSymbols as spec;
 ghost use Rattle.link_model.specs.Targets as targets;
@@ -71,12 +71,14 @@ fn dynamic_symbol(
     target: &Target,
 ) -> Result<Symbol, Memory>
     requires { joined.now ≡ record { mode = layout.now.mode; inputs = layout.now.text.inputs.now } }
-    ensures { IfOk result (λ symbol. symbol ≡ spec.dynamic_symbol layout.now.mode layout.now.text.inputs.now target.now) }
+    ensures size { IfOk result (λ symbol. symbol.size < 2 ^ 32) }
+    ensures symbol { IfOk result (λ symbol. symbol ≡ spec.dynamic_symbol layout.now.mode layout.now.text.inputs.now target.now) }
 {
+    let size = target.size;
     Ok(Symbol {
         name: name_of_key(alloc, joined, target.key)?,
         value: (layout.address_of(target.spot) % (1 << 32)) as u32,
-        size: target.size,
+        size,
         binding: target.binding,
         kind: shown_kind(layout, target),
         visibility: target.visibility,
@@ -92,7 +94,8 @@ fn shown_symbols(
     shown: &[Target],
 ) -> Result<Symbols, Memory>
     requires { joined.now ≡ record { mode = layout.now.mode; inputs = layout.now.text.inputs.now } }
-    ensures { IfOk result (λ symbols. symbols
+    ensures sizes { IfOk result (λ symbols. All (λ s. s.size < 2 ^ 32) symbols) }
+    ensures symbols { IfOk result (λ symbols. symbols
         ≡ elf.null_symbol ∷ map (spec.dynamic_symbol layout.now.mode layout.now.text.inputs.now) shown.now) }
 {
     let mut symbols = Seq::new(alloc);
@@ -112,7 +115,8 @@ pub(crate) fn dynamic_symbols(
 ) -> Result<Symbols, Memory>
     requires joined { joined.now ≡ record { mode = layout.now.mode; inputs = layout.now.text.inputs.now } }
     requires shown { shown.now ≡ spec.shown_targets layout.now.mode layout.now.text.inputs.now }
-    ensures { IfOk result (λ symbols. symbols ≡ spec.symbols_for layout.now.mode layout.now.text.inputs.now) }
+    ensures sizes { IfOk result (λ symbols. All (λ s. s.size < 2 ^ 32) symbols) }
+    ensures symbols { IfOk result (λ symbols. symbols ≡ spec.symbols_for layout.now.mode layout.now.text.inputs.now) }
 {
     match layout.mode {
         Mode::Static => Ok(Seq::new(alloc)),

@@ -1,6 +1,8 @@
 //! The sections of all inputs.
 
-ghost use Rattle.std.specs.Prelude.{◌≡◌, ◌++◌, ◌&&◌, length, not, IfOk, OnOk};
+ghost use Rattle.std.specs.Prelude.{◌≡◌, ◌<◌, ◌++◌, ◌&&◌, Contains, length, not, IfOk, OnOk};
+ghost use Rattle.link_model.specs.Inputs.{InputSection, sections_of};
+ghost use Rattle.link_names.specs.parts.Joining.{HasInput};
 ghost use Rattle.link_places.specs.parts.Heads as spec;
 
 use elf_model::constants::{SHF_EXECINSTR, SHF_WRITE, SHT_FINI_ARRAY, SHT_INIT_ARRAY, SHT_NOBITS};
@@ -117,4 +119,13 @@ pub fn section_heads(alloc: Global, inputs: &RelObjects) -> Result<SectionHeads,
         put_sections(&mut heads, input, object)?;
     }
     Ok(heads)
+}
+
+/// The section of its number of its input.
+pub fn section_of<'a>(inputs: &'a [RelObject], head: &SectionHead) -> &'a RelSection
+    requires { HasInput inputs.now head.now.input (λ o. head.now.number < length o.sections) }
+    ensures { (x : InputSection) → Contains (sections_of inputs.now) x → head.now.input ≡ x.input → head.now.number ≡ x.number → result.now ≡ x.section }
+{
+    let object = &inputs[head.input as usize];
+    &object.sections.as_slice()[head.number as usize]
 }

@@ -14,7 +14,7 @@ mod text;
 mod wants;
 
 pub use gather::{gather_needs, is_dropped, is_own_undefined};
-pub use heads::{SectionHead, SectionHeads, section_heads};
+pub use heads::{SectionHead, SectionHeads, section_heads, section_of};
 pub use layout::Layout;
 pub use needs::NeedTable;
 pub use text::TextPlaces;

@@ -1,12 +1,13 @@
 pub mod Tested
+pub mod Texts
 mod Aligned
-mod Segmented
+pub mod Segmented
 mod Pairs
 mod Filled
-mod Sites
+pub mod Sites
 mod Sounding
 pub mod Seen
 mod Relocated
-mod Fields
-mod Writable
-mod Symbols
+pub mod Fields
+pub mod Writable
+pub mod Symbols

@@ -1,5 +1,5 @@
 -- The symbols of a linked object can be written: names, small numbers, and functions at multiples of 4 in the text.
-use Rattle.std.proofs.Common.{◌≡◌, ◌≢◌, refl, ap, sym, subst, ◌∙◌, ℕ, ◌%◌, ◌^◌, ◌<◌, Bool, true, false, cond, not, ◌&&◌, ◌||◌, List, [], ◌∷◌, map, length, arith, All, inl, inr}
+use Rattle.std.proofs.Common.{◌≡◌, ◌≢◌, refl, ap, sym, subst, ◌∙◌, ℕ, ◌%◌, ◌^◌, ◌<◌, Bool, true, false, cond, not, ◌&&◌, ◌||◌, List, [], ◌∷◌, map, length, arith, All}
 use Rattle.std.specs.Prelude.{◌==◌, nat_lt, Contains, find, filter, unwrap_or, Option, Some, None, IfSome}
 use Rattle.std.specs.Option.{option_map_or}
 use Rattle.std.specs.List.{list_any}
@@ -9,7 +9,6 @@ use Rattle.std.proofs.lemmas.Bool.Decides.{nat_tests}
 use Rattle.std.proofs.lemmas.List.Elements.{All-nil, All-cons, All-contains}
 use Rattle.fd_base.proofs.Finding.{find_some}
 use Rattle.fd_base.proofs.Members.{all_contained, contains_at, in_filter, in_flat_map, in_map}
-use Rattle.fd_base.proofs.Options.{or_cases_of_three}
 use Rattle.fd_base.proofs.Ranges.{is_inside}
 use Rattle.elf_model.specs.declared.constants.TheConstants.{STB_LOCAL, STB_GLOBAL, STB_WEAK, STT_NOTYPE, STT_SECTION, STT_FUNC, STT_TLS, STV_DEFAULT, STV_INTERNAL, STV_HIDDEN, STV_PROTECTED}
 use Rattle.elf_model.specs.declared.object.Segment.{Segment}
@@ -26,10 +25,11 @@ use Rattle.link_model.specs.declared.target.Spot.TheVariants.{Nowhere, Absolute,
 use Rattle.link_model.specs.declared.target.Target.{Target}
 use Rattle.link_model.specs.DynamicSymbols.{is_shown, shown_targets, shown_place, is_callable, dynamic_symbol, symbols_for}
 use Rattle.link_model.specs.Inputs.{InputSymbol, numbered, symbols_in, symbols_of}
-use Rattle.link_model.specs.Joined.{is_joined, joined_of, name_of, names_of, of_name, defines, definitions_of, is_common, commons_of, first_of, definition_taken, visibility_of, all_weak}
+use Rattle.link_model.specs.Joined.{is_joined, joined_of, name_of, names_of, of_name, first_of, definition_taken, visibility_of, all_weak}
 use Rattle.link_model.specs.Places.{text_end, address_of}
 use Rattle.link_model.specs.Segments.{text_segment, data_segment, segments_of}
 use Rattle.link_model.specs.Targets.{is_static, is_nowhere, joined_target, name_number, target_of_name, targets_of}
+use Rattle.link_model.proofs.Taken.{taken_in}
 use Rattle.link_model.proofs.Naming.{names_are_numbered}
 use Rattle.link_model.proofs.Numbering.{numbered_at}
 
@@ -106,15 +106,6 @@ module _ (inputs : List RelObject) (sound : All IsRelSound inputs) where
     of_inputs x there =
         (in_filter (λ y. is_joined y.symbol) (symbols_of inputs) x (in_filter (λ y. bytes_eq (name_of y) name) (joined_of inputs) x there).0).0
 
-    taken_in : (x : InputSymbol) → definition_taken xs ≡ Some x → Contains xs x
-    taken_in x e = elim (or_cases_of_three (first_of (definitions_of STB_GLOBAL xs)) (first_of (commons_of xs)) (first_of (definitions_of STB_WEAK xs)) x e) [
-      | inl a ↦ (in_filter (λ y. defines (y.symbol).place && (y.symbol).binding == STB_GLOBAL) xs x (contains_at (definitions_of STB_GLOBAL xs) 0 x a)).0
-      | inr more ↦ elim more [
-        | inl b ↦ (in_filter (λ y. is_common (y.symbol).place) xs x (contains_at (commons_of xs) 0 x b)).0
-        | inr c ↦ (in_filter (λ y. defines (y.symbol).place && (y.symbol).binding == STB_WEAK) xs x (contains_at (definitions_of STB_WEAK xs) 0 x c)).0
-      ]
-    ]
-
     record IsSmallKind (kind : ℕ) : Type 0 where
       pub small : kind < 16
       pub no_tls : kind ≢ STT_TLS
@@ -136,7 +127,7 @@ module _ (inputs : List RelObject) (sound : All IsRelSound inputs) where
         by : (o : Option InputSymbol) → definition_taken xs ≡ o → IsSmall (joined_target mode inputs (name_number inputs name) xs o)
         by None e = record { binding = small_binding (all_weak xs); kind = first_kind.small; visibility = small_visibility xs; no_tls = first_kind.no_tls }
         by (Some x) e =
-            let is = (symbol_sound x (of_inputs x (taken_in x e))).1 in
+            let is = (symbol_sound x (of_inputs x (taken_in xs x e))).1 in
             let low = is.known_binding in
             record { binding = omega (arith, low); kind = is.small_kind; visibility = small_visibility xs; no_tls = is.no_tls }
 

@@ -10,7 +10,6 @@ use Rattle.elf_model.specs.declared.object.Object.{Object}
 use Rattle.elf_model.specs.declared.relocatable.RelObject.{RelObject}
 use Rattle.elf_model.specs.Test.{first_failing}
 use Rattle.elf_model.proofs.Tests.{both_pass}
-use Rattle.elf_write.specs.ObjectFile.{object_file}
 use Rattle.elf_write.specs.TableSegment.{table_end}
 use Rattle.link_model.specs.declared.input.Lib.{Lib}
 use Rattle.link_model.specs.declared.input.Mode.{Mode}
@@ -22,11 +21,11 @@ use Rattle.link_model.specs.Object.{object_of}
 use Rattle.link_model.specs.Refusals.{entry_tests, is_crowded, size_tests, tests}
 use Rattle.link_model.specs.SiteTests.{is_thumb, site_of, is_wrong_type, is_cross, site_tests}
 use Rattle.link_model.specs.Targets.{is_static, all_name_tests, LinkTest, refuses}
-use Rattle.link_writes.specs.Linked.{written_sizes}
+use Rattle.link_writes.specs.Linked.{sizes_with}
 
 -- ---- any tests
 
-head_holds : (b : Bool) (r : LinkRefusal) (o : Option LinkRefusal) → cond b (Some r) o ≡ None → (b ≡ false) × (o ≡ None)
+pub head_holds : (b : Bool) (r : LinkRefusal) (o : Option LinkRefusal) → cond b (Some r) o ≡ None → (b ≡ false) × (o ≡ None)
 head_holds true r o h = absurd cc
 head_holds false r o h = (refl, h)
 
@@ -65,13 +64,13 @@ module _ (mode : Mode) (inputs : List RelObject) where
     pub few_slots : length o.jmprels ≤ MAX_ENTRIES
     pub below : table_end o < 2 ^ 32
 
-  few : (b : Bool) (n : ℕ) → (not b && nat_lt MAX_NEEDED n) ≡ false → b ≡ false → n ≤ MAX_NEEDED
+  pub few : (b : Bool) (n : ℕ) → (not b && nat_lt MAX_NEEDED n) ≡ false → b ≡ false → n ≤ MAX_NEEDED
   few true n h e = absurd cc
   few false n h e = grind (arith, nat_tests)
 
-  has_room : (libs : List Lib) (o : Object) → first_failing (size_tests written_sizes mode o libs) ≡ None → HasRoom libs o
-  has_room libs o h =
-      let last = refuses TooLarge (nat_lt MAX_FILE (length (object_file o))) ∷ [] in
+  has_room : (file_size : Object → ℕ) (libs : List Lib) (o : Object) → first_failing (size_tests (sizes_with file_size) mode o libs) ≡ None → HasRoom libs o
+  has_room file_size libs o h =
+      let last = refuses TooLarge (nat_lt MAX_FILE (file_size o)) ∷ [] in
       let third = refuses TooLarge (nat_le (2 ^ 32) (table_end o)) ∷ last in
       let second = refuses TooLarge (is_crowded o) ∷ third in
       let one = head_holds (not (is_static mode) && nat_lt MAX_NEEDED (length libs)) TooLarge (first_failing second) h in
@@ -91,10 +90,11 @@ module _ (mode : Mode) (inputs : List RelObject) where
     pub sites : All IsPassed (all_rels inputs)
     pub room : HasRoom libs (object_of mode soname inputs libs)
 
-  pub all_passed : (soname : List ℕ) (libs : List Lib) → first_failing (tests written_sizes mode soname inputs libs) ≡ None → ArePassed soname libs
+  pub all_passed : (file_size : Object → ℕ) (soname : List ℕ) (libs : List Lib) → first_failing (tests (sizes_with file_size) mode soname inputs libs) ≡ None
+      → ArePassed soname libs
   unfolding tests
-  all_passed soname libs h =
-      let sizes = size_tests written_sizes mode (object_of mode soname inputs libs) libs in
+  all_passed file_size soname libs h =
+      let sizes = size_tests (sizes_with file_size) mode (object_of mode soname inputs libs) libs in
       let last = entry_tests mode inputs ++ sizes in
       let behind_needs = flat_map (site_tests mode inputs) (all_rels inputs) ++ last in
       let names = both_pass (all_name_tests mode inputs) (need_tests mode inputs ++ behind_needs) h in
@@ -103,5 +103,5 @@ module _ (mode : Mode) (inputs : List RelObject) where
       let entry = both_pass (entry_tests mode inputs) sizes sites.1 in
       record {
         sites = all_contained IsPassed (all_rels inputs) (λ x there. passed x (each_holds (site_tests mode inputs) (all_rels inputs) sites.0 x there));
-        room = has_room libs (object_of mode soname inputs libs) entry.1;
+        room = has_room file_size libs (object_of mode soname inputs libs) entry.1;
       }

@@ -1,27 +1,25 @@
 -- Where each test of a link holds, the linked object can be written.
-use Rattle.std.proofs.Common.{◌≡◌, refl, sym, subst, ℕ, ◌+◌, ◌^◌, ◌<◌, ◌≤◌, Bool, true, false, cond, List, [], ◌∷◌, map, length, arith, All, AllPairs}
-use Rattle.std.specs.Prelude.{◌==◌, Contains, take, unwrap_or, Some, None, IfSome}
+use Rattle.std.proofs.Common.{◌≡◌, refl, sym, subst, ℕ, ◌+◌, ◌^◌, ◌<◌, Bool, true, false, cond, List, [], ◌∷◌, map, arith, All, AllPairs}
+use Rattle.std.specs.Prelude.{◌==◌, Contains, take}
 use Rattle.std.proofs.lemmas.Bool.{eqb-true}
 use Rattle.std.proofs.lemmas.List.Elements.{All-nil, All-cons}
-use Rattle.std.proofs.lemmas.List.{length-map}
 use Rattle.fd_base.proofs.Members.{contains_first}
-use Rattle.elf_model.specs.declared.constants.TheConstants.{MAX_NEEDED, SHT_INIT_ARRAY, SHT_FINI_ARRAY}
+use Rattle.elf_model.specs.declared.constants.TheConstants.{SHT_INIT_ARRAY, SHT_FINI_ARRAY}
 use Rattle.elf_model.specs.declared.object.Object.{Object}
 use Rattle.elf_model.specs.declared.object.Segment.{Segment}
 use Rattle.elf_model.specs.declared.object.Symbol.{Symbol}
 use Rattle.elf_model.specs.declared.relocatable.RelObject.{RelObject}
 use Rattle.elf_model.specs.declared.table.Site.{Site}
-use Rattle.elf_model.specs.RelSound.{IsNameText}
 use Rattle.elf_model.specs.Sound.{IsSound, RangesApart}
 use Rattle.elf_model.specs.Symbols.{null_symbol}
 use Rattle.elf_write.specs.WritableObject.{IsSymbolWritable, IsWritableObject}
 use Rattle.link_model.specs.declared.input.Lib.{Lib}
 use Rattle.link_model.specs.declared.input.Mode.{Mode}
 use Rattle.link_model.specs.DynamicSymbols.{dynamic_symbol, shown_targets, symbols_for}
-use Rattle.link_model.specs.Object.{needed_of, object_of, sections_of_kind}
+use Rattle.link_model.specs.Object.{object_of, sections_of_kind}
 use Rattle.link_model.specs.Places.{text_end}
 use Rattle.link_model.specs.Segments.{text_segment, data_segment, segments_of}
-use Rattle.link_model.specs.Targets.{is_shared, is_static}
+use Rattle.link_model.specs.Targets.{is_static}
 use Rattle.link_model.proofs.Written.{words_are_linked}
 use Rattle.link_writes.specs.Linked.{AreInputs, LinkedIsWritable}
 use Rattle.link_writes.proofs.Fields.{filled, named, filled_is, named_fillable, rels_written, all_slots_written, slot_kinds, some_extent}
@@ -29,6 +27,7 @@ use Rattle.link_writes.proofs.Segmented.{one_or_two, segments_aligned, segments_
 use Rattle.link_writes.proofs.Sounding.{IsInData, header, with_header, all_in_place, all_whole}
 use Rattle.link_writes.proofs.Symbols.{symbols_writable}
 use Rattle.link_writes.proofs.Tested.{ArePassed, all_passed}
+use Rattle.link_writes.proofs.Texts.{needed_count, needed_texts, soname_text}
 
 module _ (mode : Mode) (soname : List ℕ) (inputs : List RelObject) (libs : List Lib) (given : AreInputs soname inputs libs) (passed : ArePassed mode inputs soname libs) where
   abbrev o : Object
@@ -69,31 +68,7 @@ module _ (mode : Mode) (soname : List ℕ) (inputs : List RelObject) (libs : Lis
         few_slots = (passed.room).few_slots;
       }
 
-  -- ---- names
-
-  needed_count : length (cond (is_static mode) [] (needed_of libs)) ≤ MAX_NEEDED
-  needed_count = by (is_static mode) refl
-    where
-      by : (b : Bool) → is_static mode ≡ b → length (cond b [] (needed_of libs)) ≤ MAX_NEEDED
-      by true e = omega arith
-      by false e =
-          let few = (passed.room).few_needed e in
-          let size : length (needed_of libs) ≡ length libs = length-map libs (λ (l : Lib). unwrap_or (l.object).soname l.name) in
-          omega (arith, few, size)
-
-  needed_texts : All IsNameText (cond (is_static mode) [] (needed_of libs))
-  needed_texts = by (is_static mode)
-    where
-      by : (b : Bool) → All IsNameText (cond b [] (needed_of libs))
-      by true = All-nil IsNameText
-      by false = given.needed_names
-
-  soname_text : IfSome (cond (is_shared mode) (Some soname) None) IsNameText
-  soname_text = by (is_shared mode)
-    where
-      by : (b : Bool) → IfSome (cond b (Some soname) None) IsNameText
-      by true = given.own_name
-      by false = tt
+  -- ---- all
 
   null_first : All (λ s. s ≡ null_symbol) (take 1 (symbols_for mode inputs))
   null_first = by (is_static mode)
@@ -101,8 +76,6 @@ module _ (mode : Mode) (soname : List ℕ) (inputs : List RelObject) (libs : Lis
       by : (b : Bool) → All (λ s. s ≡ null_symbol) (take 1 (cond b [] (null_symbol ∷ map (dynamic_symbol mode inputs) (shown_targets mode inputs))))
       by true = All-nil (λ (s : Symbol). s ≡ null_symbol)
       by false = All-cons (λ (s : Symbol). s ≡ null_symbol) null_symbol [] refl (All-nil (λ (s : Symbol). s ≡ null_symbol))
-
-  -- ---- all
 
   pub is_writable : All (IsSymbolWritable ss) (symbols_for mode inputs) → IsWritableObject o
   unfolding object_of
@@ -116,9 +89,9 @@ module _ (mode : Mode) (soname : List ℕ) (inputs : List RelObject) (libs : Lis
         null_first = null_first;
         few_symbols = (passed.room).few_symbols;
         writable_symbols = symbols;
-        few_needed = needed_count;
-        needed_named = needed_texts;
-        soname_named = soname_text;
+        few_needed = needed_count mode libs (passed.room).few_needed;
+        needed_named = needed_texts mode soname inputs libs given;
+        soname_named = soname_text mode soname inputs libs given;
         writable_rels = rels_written mode inputs given.sound passed.sites;
         writable_slots = all_slots_written mode inputs given.sound passed.sites;
         some_starts = some_extent mode inputs (sections_of_kind inputs SHT_INIT_ARRAY);
@@ -140,6 +113,6 @@ module _ (mode : Mode) (soname : List ℕ) (inputs : List RelObject) (libs : Lis
       by false e = let end = below (text_segment mode inputs) (there e) in omega (arith, end)
 
 pub linked_is_writable : LinkedIsWritable
-linked_is_writable mode soname inputs libs given h =
-    let passed = all_passed mode inputs soname libs h in
+linked_is_writable file_size mode soname inputs libs given h =
+    let passed = all_passed mode inputs file_size soname libs h in
     is_writable mode soname inputs libs given passed (symbols_writable inputs given.sound mode (text_below mode soname inputs libs given passed))

@@ -1,7 +1,7 @@
 -- How large the parts of an object can be, and where they stand.
 use Rattle.std.specs.Prelude.{◌≡◌, ℕ, ◌+◌, ◌-◌, ◌*◌, ◌^◌, ◌<◌, ◌≤◌, List, length, map, All, IfSome, Option}
 use Rattle.std.specs.Option.{option_map_or}
-use Rattle.elf_model.specs.declared.constants.TheConstants.{MAX_ENTRIES, MAX_NEEDED, PT_LOAD, PT_DYNAMIC, PF_R, SHT_PROGBITS, SHT_STRTAB, SHF_ALLOC}
+use Rattle.elf_model.specs.declared.constants.TheConstants.{PT_LOAD, PT_DYNAMIC, PF_R, SHT_PROGBITS, SHT_STRTAB, SHF_ALLOC}
 use Rattle.elf_model.specs.declared.object.Object.{Object}
 use Rattle.elf_model.specs.declared.object.Segment.{Segment}
 use Rattle.elf_model.specs.declared.object.Symbol.{Symbol}
@@ -29,17 +29,6 @@ pub record IsSegmentSmall (s : Segment) : Type 0 where
 pub record AreSegmentsSmall (ss : List Segment) : Type 0 where
   pub each : All IsSegmentSmall ss
   pub few : length ss ≤ 7
-
--- names and tables that are not too many
-pub record IsObjectSmall (o : Object) : Type 0 where
-  pub few_symbols : length o.symbols ≤ MAX_ENTRIES
-  pub named : All (λ s. IfSome s.name IsNameText) o.symbols
-  pub soname_named : IfSome o.soname IsNameText
-  pub few_needed : length o.needed ≤ MAX_NEEDED
-  pub needed_named : All IsNameText o.needed
-  pub few_rels : length o.rels ≤ MAX_ENTRIES
-  pub few_slots : length o.jmprels ≤ MAX_ENTRIES
-  pub few_fixups : IfSome o.fixups (λ fixups. length fixups < 2 ^ 32)
 
 -- the fields of a symbol fit into its row
 pub record IsSymbolPacked (s : Symbol) : Type 0 where

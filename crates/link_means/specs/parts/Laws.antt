@@ -12,7 +12,8 @@ use Rattle.link_model.specs.declared.input.Lib.{Lib}
 use Rattle.link_model.specs.declared.input.Mode.{Mode}
 use Rattle.link_model.specs.declared.target.Reach.TheVariants.{Settled, Nothing}
 use Rattle.link_model.specs.DynamicRels.{rels_for, jmprels_for, fixups_for}
-use Rattle.link_model.specs.Inputs.{InputRel, all_rels}
+use Rattle.link_model.specs.DynamicSymbols.{symbols_for}
+use Rattle.link_model.specs.Inputs.{InputRel, InputSection, all_rels, sections_of}
 use Rattle.link_model.specs.Needs.{is_branch, target_at}
 use Rattle.link_model.specs.Object.{object_of}
 use Rattle.link_model.specs.Places.{data_place, data_end}
@@ -24,7 +25,12 @@ use Rattle.link_model.specs.Targets.{is_absolute}
 use Rattle.link_model.specs.parts.Laws.{AreClear}
 use Rattle.link_sites.specs.Loaded.{IsModule, LoadedWord}
 use Rattle.link_sites.specs.Meaning.{BranchesTo}
+use Rattle.link_means.specs.Linked.{HasBytes}
 use Rattle.link_means.specs.Values.{address_word, settled_value}
+
+-- the bytes of all sections are numbers below 256
+abbrev pub AreOfBytes : List RelObject → Type 0
+AreOfBytes inputs = All (λ (x : InputSection). HasBytes x.section) (sections_of inputs)
 
 -- an object with the segments of a link, others behind them, and what a link leaves to the loader
 pub record IsOutput (mode : Mode) (inputs : List RelObject) (o : Object) : Type 0 where
@@ -35,6 +41,7 @@ pub record IsOutput (mode : Mode) (inputs : List RelObject) (o : Object) : Type 
   pub rels' : o.rels ≡ rels_for mode inputs
   pub jmprels' : o.jmprels ≡ jmprels_for mode inputs
   pub fixups' : o.fixups ≡ fixups_for mode inputs
+  pub symbols' : o.symbols ≡ symbols_for mode inputs
 
 -- the file of a linked object is read so
 abbrev pub LinkedIsOutput : Type 0

@@ -1,4 +1,5 @@
 use Rattle.std.proofs.Common.{◌≡◌, None, length, get_or, take, refl, ap, sym, subst, ◌∙◌, arith}
+use Rattle.std.specs.Prelude.{◌<◌, Contains}
 use Rattle.std.specs.List.{flat_map}
 use Rattle.std.proofs.lemmas.List.{length-map, take_all}
 use Rattle.std.proofs.lemmas.Result.{err_from_is_err_and}
@@ -6,6 +7,7 @@ use Rattle.elf_model.specs.Test.{first_failing}
 use Rattle.link_model.specs.Inputs.{InputSection, rels_in, sections_of}
 use Rattle.link_model.specs.SiteTests.{site_tests}
 use Rattle.link_model.specs.parts.Passes.{IsRefusal}
+use Rattle.link_names.specs.parts.Joining.{HasInput}
 use Rattle.link_places.specs.declared.heads.SectionHead.{SectionHead}
 use Rattle.link_places.specs.parts.Heads.{head_of, heads_of}
 use Rattle.link_checks.specs.parts.Found.{AreFound}
@@ -14,14 +16,14 @@ use Rattle.link_checks.proofs.Heads.{section_of, has_input, all_inside}
 use Rattle.link_checks.proofs.Passing.{flattened, mapped, one_more, refused}
 use Rattle.link_checks.proofs.sites.check_sites.Goals as goal
 
-pub section-requires : goal.section-requires
-section-requires c =
+pub section_of-section-requires : goal.section_of-section-requires
+section_of-section-requires c =
     let l = c.args.linking.now in
     let k = c.loop-head.head-index in
     let d : SectionHead = record { index = 0; input = 0; number = 0; kind = 0; flags = 0; align = 0; size = 0 } in
     let h : SectionHead = get_or c.heads-head-items.result.now k d in
     let s = section_of l.joined.inputs k h c.heads-head-items.result.now d (c.heads-head-items.ensures ∙ ap heads_of l.one_inputs) c.loop-head-test.true refl in
-    has_input l.joined.inputs k h s
+    subst (λ xs. HasInput xs h.input (λ o. h.number < length o.sections)) (sym c.inputs.ensures) (has_input l.joined.inputs k h s)
 
 pub check_section-requires : goal.check_section-requires
 check_section-requires c =
@@ -30,7 +32,7 @@ check_section-requires c =
     let d : SectionHead = record { index = 0; input = 0; number = 0; kind = 0; flags = 0; align = 0; size = 0 } in
     let h : SectionHead = get_or c.heads-head-items.result.now k d in
     let s = section_of l.joined.inputs k h c.heads-head-items.result.now d (c.heads-head-items.ensures ∙ ap heads_of l.one_inputs) c.loop-head-test.true refl in
-    all_inside l.joined.inputs k h s c.section.result.now (c.section.ensures s.section s.known s.input' s.number') l.inside
+    all_inside l.joined.inputs k h s c.section_of-section.result.now (c.section_of-section.ensures s.section (subst (λ xs. Contains (sections_of xs) s.section) (sym c.inputs.ensures) s.known) s.input' s.number') l.inside
 
 pub returns-in_err-check_section : goal.returns-in_err-check_section
 returns-in_err-check_section c =
@@ -42,7 +44,7 @@ returns-in_err-check_section c =
     let d : SectionHead = record { index = 0; input = 0; number = 0; kind = 0; flags = 0; align = 0; size = 0 } in
     let h : SectionHead = get_or c.heads-head-items.result.now k d in
     let s = section_of inputs k h c.heads-head-items.result.now d (c.heads-head-items.ensures ∙ ap heads_of l.one_inputs) c.loop-head-test.true refl in
-    let is : IsSection s.section h c.section.result.now = record { head' = s.head'; section' = c.section.ensures s.section s.known s.input' s.number' } in
+    let is : IsSection s.section h c.section_of-section.result.now = record { head' = s.head'; section' = c.section_of-section.ensures s.section (subst (λ xs. Contains (sections_of xs) s.section) (sym c.inputs.ensures) s.known) s.input' s.number' } in
     let e = c.in_err-check_section.field-0.0 in
     let here = c.in_err-check_section.ensures s.section (flat_map rels_in (take k (sections_of inputs))) is c.loop-head.invariant.found in
     let all : flat_map (λ (x : InputSection). flat_map (site_tests mode inputs) (rels_in x)) (sections_of inputs) ≡ flat_map (site_tests mode inputs) (flat_map rels_in (sections_of inputs)) =
@@ -59,7 +61,7 @@ loop-head-preserved c =
     let d : SectionHead = record { index = 0; input = 0; number = 0; kind = 0; flags = 0; align = 0; size = 0 } in
     let h : SectionHead = get_or c.heads-head-items.result.now k d in
     let s = section_of inputs k h c.heads-head-items.result.now d (c.heads-head-items.ensures ∙ ap heads_of l.one_inputs) c.loop-head-test.true refl in
-    let is : IsSection s.section h c.section.result.now = record { head' = s.head'; section' = c.section.ensures s.section s.known s.input' s.number' } in
+    let is : IsSection s.section h c.section_of-section.result.now = record { head' = s.head'; section' = c.section_of-section.ensures s.section (subst (λ xs. Contains (sections_of xs) s.section) (sym c.inputs.ensures) s.known) s.input' s.number' } in
     let here = c.in_ok-check_section.ensures s.section (flat_map rels_in (take k (sections_of inputs))) is c.loop-head.invariant.found in
     record {
       passed = one_more (sections_of inputs) k s.section s.there (λ (x : InputSection). flat_map (site_tests mode inputs) (rels_in x)) c.loop-head.invariant.passed ∙ here.0;

@@ -1,7 +1,7 @@
 use Rattle.std.proofs.Common.{◌≡◌, ◌<◌, ◌∷◌, [], ◌++◌, All, length, get_or, map, take, ap, sym, subst, ◌∙◌, arith}
 use Rattle.std.specs.Prelude.{Contains}
 use Rattle.std.proofs.lemmas.List.{map-append}
-use Rattle.link_model.specs.Inputs.{InputSymbol, numbered, symbols_of}
+use Rattle.link_model.specs.Inputs.{numbered, symbols_of}
 use Rattle.link_model.specs.Joined.{definition_taken}
 use Rattle.link_model.specs.Targets.{joined_target}
 use Rattle.link_names.proofs.Prefixes.{numbered_next}

@@ -3,7 +3,7 @@ use Rattle.std.specs.Option.{option_copied}
 use Rattle.std.proofs.lemmas.List.Elements.{All-contains}
 use Rattle.std.specs.Prelude.{Contains}
 use Rattle.link_model.specs.Inputs.{symbols_of}
-use Rattle.link_names.proofs.Lists.{taken_in}
+use Rattle.link_model.proofs.Taken.{taken_in}
 use Rattle.link_names.proofs.target.joined_target.Goals as goal
 
 pub placed_target-requires-clause-known : goal.placed_target-requires-clause-known

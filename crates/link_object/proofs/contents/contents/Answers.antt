@@ -1,6 +1,5 @@
-use Rattle.std.proofs.Common.{◌≡◌, List, [], ◌∷◌, ◌++◌, cond, filter, take, ◌+◌, ap, sym, subst, ◌∙◌, arith}
+use Rattle.std.proofs.Common.{◌≡◌, [], ◌∷◌, ◌++◌, cond, filter, take, ◌+◌, ap, sym, subst, ◌∙◌, arith}
 use Rattle.link_model.specs.Inputs.{sections_of}
-use Rattle.link_words.specs.declared.contents.Content.{Content}
 use Rattle.link_words.specs.parts.Contents.{AreContentsOf}
 use Rattle.link_object.specs.parts.Filled.{is_copied}
 use Rattle.link_object.proofs.Copied.{one_more}

@@ -1,6 +1,5 @@
-use Rattle.std.proofs.Common.{◌++◌, ◌≡◌, List, filter, ap, sym, subst, ◌∙◌, All, [], true, false}
+use Rattle.std.proofs.Common.{◌++◌, ◌≡◌, filter, sym, subst, ◌∙◌, All, true, false}
 use Rattle.link_model.specs.Object.{sections_of_kind}
-use Rattle.link_places.specs.declared.heads.SectionHead.{SectionHead}
 use Rattle.link_places.specs.parts.Heads.{heads_of}
 use Rattle.link_object.specs.parts.Arrays.{is_of_kind, EndsLow}
 use Rattle.link_object.proofs.Arrays.{heads_low, heads_are}

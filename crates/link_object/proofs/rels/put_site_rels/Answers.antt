@@ -1,4 +1,4 @@
-use Rattle.std.proofs.Common.{rules, arith}
+use Rattle.std.proofs.Common.{arith}
 use Rattle.link_model.specs.Sites.{site_rels}
 use Rattle.link_words.specs.parts.Facts.{AreFacts}
 use Rattle.link_object.proofs.Gathered.{one_more, all_gathered}

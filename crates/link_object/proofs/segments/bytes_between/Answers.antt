@@ -1,4 +1,4 @@
-use Rattle.std.proofs.Common.{◌≡◌, ◌-◌, ◌<◌, length, ◌∙◌, arith, rules}
+use Rattle.std.proofs.Common.{◌≡◌, ◌-◌, length, ◌∙◌, arith, rules}
 use Rattle.load_model.specs.Image.{byte_over}
 use Rattle.link_model.specs.Segments.{section_byte}
 use Rattle.link_object.proofs.Segmented.{listed}

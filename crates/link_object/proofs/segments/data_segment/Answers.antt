@@ -2,7 +2,8 @@ use Rattle.std.proofs.Common.{◌-◌, ap, ◌∙◌, arith}
 use Rattle.link_model.specs.Joined.{greatest}
 use Rattle.link_model.specs.Places.{blocks_of}
 use Rattle.link_model.specs.Segments.{linked_bytes}
-use Rattle.link_object.proofs.Filed.{data_from, filled_below}
+use Rattle.link_object.proofs.Filed.{data_from}
+use Rattle.link_model.proofs.Written.{filled_below}
 use Rattle.link_object.proofs.Greatest.{data_align}
 use Rattle.link_object.proofs.segments.data_segment.Goals as goal
 

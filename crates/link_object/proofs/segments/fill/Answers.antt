@@ -1,4 +1,4 @@
-use Rattle.std.proofs.Common.{◌+◌, ◌<◌, length, slice_index, refl, arith}
+use Rattle.std.proofs.Common.{◌+◌, slice_index, refl, arith}
 use Rattle.load_image.proofs.ImageParts.{part_byte}
 use Rattle.link_model.specs.Segments.{section_byte}
 use Rattle.link_object.proofs.segments.fill.Goals as goal

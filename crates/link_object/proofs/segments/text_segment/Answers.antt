@@ -1,6 +1,7 @@
 use Rattle.std.proofs.Common.{arith}
 use Rattle.link_model.proofs.Placed.{data_above}
-use Rattle.link_object.proofs.Filed.{data_from, text_filled_below}
+use Rattle.link_object.proofs.Filed.{data_from}
+use Rattle.link_model.proofs.Written.{text_filled_below}
 use Rattle.link_object.proofs.segments.text_segment.Goals as goal
 
 pub overflow_cast-filled_end : goal.overflow_cast-filled_end

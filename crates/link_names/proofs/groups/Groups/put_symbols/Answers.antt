@@ -1,4 +1,4 @@
-use Rattle.std.proofs.Common.{◌≡◌, ◌<◌, ◌≤◌, length, get_or, ap, sym, ◌∙◌, ◌++◌, arith, subst}
+use Rattle.std.proofs.Common.{◌≡◌, ◌<◌, ◌≤◌, length, get_or, ap, sym, ◌∙◌, ◌++◌, arith}
 use Rattle.std.proofs.lemmas.List.{append-nil}
 use Rattle.link_names.specs.parts.Grouped.{groups_of, joined_among}
 use Rattle.link_names.proofs.Prefixes.{symbols_until, next_symbol, all_symbols}

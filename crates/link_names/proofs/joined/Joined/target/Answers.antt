@@ -1,6 +1,6 @@
-use Rattle.std.proofs.Common.{◌≡◌, ◌<◌, true, false, length, get_or, [], ap, sym, subst, ◌∙◌}
+use Rattle.std.proofs.Common.{◌<◌, length, get_or, [], ap, sym, subst, ◌∙◌}
 use Rattle.std.specs.Prelude.{Contains, unwrap_or}
-use Rattle.link_model.specs.Joined.{is_joined, names_of}
+use Rattle.link_model.specs.Joined.{names_of}
 use Rattle.link_model.specs.Targets.{target_of, target_of_name}
 use Rattle.link_names.specs.parts.Joining.{Joining, HasInput}
 use Rattle.link_names.proofs.Agreeing.{symbol_at, own_is, joined_is, name_there}

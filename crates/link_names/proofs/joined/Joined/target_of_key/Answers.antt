@@ -1,4 +1,4 @@
-use Rattle.std.proofs.Common.{◌<◌, length, get_or, ap, sym, subst, ◌∙◌}
+use Rattle.std.proofs.Common.{◌<◌, length, ap, sym, subst, ◌∙◌}
 use Rattle.link_model.specs.Joined.{names_of}
 use Rattle.link_model.specs.Targets.{target_of_key}
 use Rattle.link_model.specs.declared.target.Key.TheVariants.{Name}

@@ -1,4 +1,4 @@
-use Rattle.std.proofs.Common.{◌≡◌, ℕ, get_or, ap, sym, subst, ◌∙◌}
+use Rattle.std.proofs.Common.{◌≡◌, ap, sym, subst, ◌∙◌}
 use Rattle.std.specs.Prelude.{Contains, position, unwrap_or}
 use Rattle.std.specs.Str.{bytes_eq}
 use Rattle.link_model.specs.Joined.{names_of}

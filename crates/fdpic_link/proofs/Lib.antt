@@ -1,0 +1,5 @@
+pub mod Above
+pub mod Stages
+pub mod Objects
+pub mod Fitting
+pub mod Linking

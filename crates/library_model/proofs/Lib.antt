@@ -1,0 +1,13 @@
+pub mod Recounted
+pub mod Once
+pub mod Ways
+pub mod Left
+pub mod Keeping
+pub mod Rooted
+pub mod Reaching
+pub mod Deciding
+pub mod Places
+pub mod Valid
+pub mod HeldAfterOpens
+pub mod Held
+pub mod RecountedLoaders

@@ -1,0 +1,5 @@
+pub mod Holding
+pub mod Opens
+pub mod Searches
+pub mod Closes
+pub mod parts

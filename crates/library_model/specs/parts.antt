@@ -1,0 +1,2 @@
+-- What contracts inside the program say: the contract of the top call cites none of it.
+pub mod Laws

@@ -1,0 +1,12 @@
+pub mod DescriptorsLeft
+pub mod ImagesLeft
+pub mod LeftOver
+pub mod ModulesLeft
+pub mod OthersAddresses
+pub mod OthersValid
+pub mod PlacesLeft
+pub mod RangesLeft
+pub mod RemovalsKeep
+pub mod StayingModules
+pub mod StayingSites
+pub mod TablesLeft
